@@ -1,0 +1,12 @@
+pub mod Points
+pub mod Measures
+pub mod Lines
+pub mod Tokens
+pub mod Divides
+pub mod Directions
+pub mod Directions3
+pub mod Numbers
+pub mod Whole
+pub mod Words
+pub mod Fronts
+pub mod Sizes

@@ -1,0 +1,37 @@
+-- Points whose numbers are of a stated size.
+use Rattle.std.specs.Prelude.{◌-◌, ◌^◌}
+use Rattle.bc_algebra.specs.Within.{IsWithin}
+use Rattle.bc_num.specs.declared.v2.V2.{V2}
+use Rattle.bc_num.specs.declared.v3.V3.{V3}
+use Rattle.bc_num.specs.declared.p2.P2.{P2}
+use Rattle.bc_num.specs.declared.p3.P3.{P3}
+
+-- coordinates from -1023 to 1023
+pub record AreCoords (v : V2) : Type 0 where
+  pub x_near : IsWithin 1023 v.x
+  pub y_near : IsWithin 1023 v.y
+
+-- coordinates at most 2^60 in size, w at most 2^40
+pub record IsSmallPoint (p : P2) : Type 0 where
+  pub x_near : IsWithin (2 ^ 60) p.x
+  pub y_near : IsWithin (2 ^ 60) p.y
+  pub w_near : IsWithin (2 ^ 40) p.w
+
+-- coordinates below 2^98 in size, w below 2^86
+pub record IsLargePoint (p : P2) : Type 0 where
+  pub x_near : IsWithin (2 ^ 98 - 1) p.x
+  pub y_near : IsWithin (2 ^ 98 - 1) p.y
+  pub w_near : IsWithin (2 ^ 86 - 1) p.w
+
+-- ---- the same in space
+
+pub record AreCoords3 (v : V3) : Type 0 where
+  pub x_near : IsWithin 1023 v.x
+  pub y_near : IsWithin 1023 v.y
+  pub z_near : IsWithin 1023 v.z
+
+pub record IsLargePoint3 (p : P3) : Type 0 where
+  pub x_near : IsWithin (2 ^ 98 - 1) p.x
+  pub y_near : IsWithin (2 ^ 98 - 1) p.y
+  pub z_near : IsWithin (2 ^ 98 - 1) p.z
+  pub w_near : IsWithin (2 ^ 86 - 1) p.w

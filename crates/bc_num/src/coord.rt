@@ -1,0 +1,45 @@
+ghost use Rattle.std.specs.Prelude.{◌≡◌, ◌≤◌, ◌↔◌, unsigned_abs, IsSome, IfSome};
+ghost use Rattle.bc_algebra.specs.Within.{IsWithin};
+
+use std::marker::Model;
+
+/// A coordinate of an input's vertex, end or centre: a whole number from -1023 to 1023.
+#[derive(Clone, Copy, Debug, PartialEq, Eq)]
+pub struct Coord {
+    value: i64,
+}
+
+impl Model for Coord {
+    ghost use Rattle.std.specs.Prelude.{ℤ};
+    ghost use Rattle.bc_algebra.specs.Within.{IsWithin};
+
+    ghost Value = { ℤ };
+
+    ghost view = { λ c. c.value };
+
+    ghost invariant = { λ c. IsWithin 1023 c.value };
+
+    ghost inverse = { λ z. record { value = z } };
+}
+
+impl Coord {
+    /// The number as a coordinate. `None` exactly where it is outside -1023 to 1023.
+    pub fn new(v: i64) -> Option<Coord>
+        ensures some { IsSome result ↔ IsWithin 1023 v }
+        ensures value { IfSome result (λ c. c ≡ v) }
+    {
+        if v.unsigned_abs() <= 1023 {
+            Some(Coord { value: v })
+        } else {
+            None
+        }
+    }
+
+    /// The number, from -1023 to 1023.
+    pub fn get(self) -> i64
+        ensures value { result ≡ self }
+        ensures near { IsWithin 1023 result }
+    {
+        self.value
+    }
+}

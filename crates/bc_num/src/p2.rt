@@ -1,0 +1,11 @@
+ghost use Rattle.std.specs.Prelude.{pos, ◌<ℤ◌};
+
+/// The rational point `(x / w, y / w)` of the plane. `w` is at least 1. Each point has many such forms: `reduce2` gives
+/// the one in lowest terms, and `==` compares the numbers and not the points.
+#[derive(Clone, Copy, Debug, PartialEq, Eq)]
+pub struct P2 {
+    pub x: i128,
+    pub y: i128,
+    pub w: i128,
+    pub ghost positive: { pos 0 <ℤ w },
+}

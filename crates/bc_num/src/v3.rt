@@ -1,0 +1,8 @@
+/// A place or a vector of space with whole coordinates. Any numbers are allowed; each call says
+/// how large they may be.
+#[derive(Clone, Copy, Debug, PartialEq, Eq, Hash)]
+pub struct V3 {
+    pub x: i64,
+    pub y: i64,
+    pub z: i64,
+}
