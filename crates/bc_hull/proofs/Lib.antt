@@ -1,0 +1,4 @@
+pub mod Members
+pub mod Block
+pub mod Values
+pub mod Climb
