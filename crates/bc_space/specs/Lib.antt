@@ -1,0 +1,14 @@
+pub mod Sides
+pub mod Lines
+pub mod Discs
+pub mod LinesThrough
+pub mod Regions
+pub mod Laws
+pub mod Signs
+pub mod HullOfWays
+pub mod Flat
+pub mod FlatMeets
+pub mod FlatWays
+pub mod FlatLaws
+pub mod Planes
+pub mod PlanesThrough
