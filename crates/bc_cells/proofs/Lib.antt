@@ -1,0 +1,13 @@
+pub mod Lists
+pub mod Choices
+pub mod Reduced
+pub mod Regions
+pub mod Masks
+pub mod Mixing
+pub mod Grow
+pub mod Gather
+pub mod Inner
+pub mod Choose
+pub mod PartOf
+pub mod Step
+pub mod Whole
