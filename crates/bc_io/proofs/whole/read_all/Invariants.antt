@@ -1,0 +1,14 @@
+-- What came is what the source gave up, and its count has not fallen.
+use Rattle.std.proofs.Common.{◌≤◌, ◌+◌, ◌-◌, length}
+use Rattle.std.specs.Io.KnownBytes.{Consumes}
+use Rattle.bc_io.proofs.whole.read_all.Given as goal
+
+abbrev pub invariant-loop-chunk : goal.invariant-loop-chunk
+invariant-loop-chunk g l = record {
+  bytes : Consumes (g.S.Source.left l.initial.src) (g.S.Source.left l.src) l.all.items;
+  within : length l.all.items ≤ l.limit + 1;
+  later : g.S.Source.faults l.initial.src ≤ g.S.Source.faults l.src;
+}
+
+abbrev pub decreases-loop-chunk : goal.decreases-loop-chunk
+decreases-loop-chunk g l = l.limit + 1 - length l.all.items
