@@ -1,0 +1,4 @@
+pub mod Gaps
+pub mod Steps
+pub mod Nexts
+pub mod Orders

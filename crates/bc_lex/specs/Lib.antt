@@ -1,0 +1,5 @@
+pub mod Places
+pub mod Lines
+pub mod GWords
+pub mod Left
+pub mod Order

@@ -1,0 +1,15 @@
+-- The places between the lines of a text, and between the words of a line.
+use Rattle.std.specs.Prelude.{ℕ, List}
+
+-- a place in a text, behind `number` lines: `at` bytes of it came
+pub record LinePlace : Type 0 where
+  pub text : List ℕ
+  pub at : ℕ
+  pub number : ℕ
+
+-- a place in the text of the line with the number `line`, behind `nth` words: `at` bytes of it came
+pub record WordPlace : Type 0 where
+  pub line : ℕ
+  pub text : List ℕ
+  pub at : ℕ
+  pub nth : ℕ
