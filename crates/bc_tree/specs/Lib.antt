@@ -1,0 +1,10 @@
+pub mod Shape
+pub mod Leaves
+pub mod Holds
+pub mod Truth
+pub mod Solved
+pub mod Decided
+pub mod Near
+pub mod Cuts
+pub mod Words
+pub mod Spells
