@@ -1,0 +1,5 @@
+pub mod HalfSpaces
+pub mod Boxes
+pub mod Closed
+pub mod Contours
+pub mod ContourFaults
