@@ -1,0 +1,21 @@
+pub mod Orders
+pub mod Signs
+pub mod Xors
+pub mod Segments
+pub mod Circles
+pub mod Turns
+pub mod Rows
+pub mod InDisc
+pub mod PastDisc
+pub mod Chords
+pub mod Halves
+pub mod Edges
+pub mod Straight
+pub mod Cells
+pub mod Boxes
+pub mod Outside
+pub mod Ways
+pub mod OnEdge
+pub mod Profiles
+pub mod Loops
+mod Examples

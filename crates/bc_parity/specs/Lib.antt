@@ -1,0 +1,11 @@
+pub mod Parity
+pub mod Crossings
+pub mod Odd
+pub mod Sides
+pub mod ChordLaw
+pub mod Sums
+pub mod StraightOdd
+pub mod Flips
+pub mod Laws
+pub mod OnEdge
+pub mod Between
