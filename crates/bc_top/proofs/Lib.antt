@@ -1,0 +1,6 @@
+pub mod Circles
+pub mod Reporting
+mod Words
+mod OneElement
+mod Queries
+mod Answering

@@ -1,0 +1,18 @@
+//! The one call of the program: words, a source, a sink and a sink for notes in, a status out.
+#![tactic(auto)]
+
+mod answer;
+mod boundary;
+mod circle;
+mod command;
+mod convert;
+mod pieces;
+mod reports;
+mod side;
+mod status;
+
+pub use answer::run;
+pub use status::{Refusal, Status};
+
+#[cfg(test)]
+mod tests;

@@ -1,0 +1,54 @@
+ghost use Rattle.std.specs.Prelude.{◌≡◌};
+ghost use Rattle.bc_top.specs.Status.{code_of};
+
+use bc_gcode::GFault;
+use bc_solid::ContourFault;
+
+/// Why good words are not answered: the first cause in the order of this list. A fault inside is never a want of
+/// memory, which is a status of its own.
+#[derive(Clone, Copy, Debug, PartialEq, Eq)]
+pub enum Refusal {
+    /// A number of the point is past 2^60 in size, or its denominator is past 2^40.
+    PointTooFine,
+    /// The point of a question about contours has a Z other than 0.
+    PointOffPlane,
+    /// The text has more than 1,048,576 bytes.
+    TooLong,
+    /// The text is not of the contour grammar.
+    G(GFault),
+    /// The contours are not closed.
+    Contour(ContourFault),
+    /// The contours are not one full circle, the only boundary that is converted so far.
+    NotThisForm,
+}
+
+/// How a run of the program ended.
+#[derive(Clone, Copy, Debug, PartialEq, Eq)]
+pub enum Status {
+    Done,
+    Refused(Refusal),
+    /// The words are not in the command table.
+    Usage,
+    /// The source failed.
+    ReadFault,
+    /// The sink failed.
+    WriteFault,
+    /// There was no memory left.
+    Memory,
+}
+
+impl Status {
+    /// The exit status of the program: 0, 2, 3, 4, 5, 6 in the order of the variants.
+    pub fn code(&self) -> u8
+        ensures { result ≡ code_of self.now }
+    {
+        match self {
+            Status::Done => 0,
+            Status::Refused(_) => 2,
+            Status::Usage => 3,
+            Status::ReadFault => 4,
+            Status::WriteFault => 5,
+            Status::Memory => 6,
+        }
+    }
+}
