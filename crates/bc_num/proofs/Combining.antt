@@ -130,7 +130,7 @@ pub IsSamePoint2_sym : (p q : P2) → IsSamePoint2 p q → IsSamePoint2 q p
 IsSamePoint2_sym p q e = record { along_x = sym e.along_x; along_y = sym e.along_y }
 
 -- a number above 0 is no larger than a multiple of it that is above 0
-factor_le : (a b k : ℤ) → pos 0 <ℤ b → pos 0 <ℤ k → a ≡ k *ℤ b → b ≤ℤ a
+pub factor_le : (a b k : ℤ) → pos 0 <ℤ b → pos 0 <ℤ k → a ≡ k *ℤ b → b ≤ℤ a
 factor_le a b k hb hk e =
     let m : (pos 1 *ℤ b) ≤ℤ (k *ℤ b) = mul_le (pos 1) k b (omega (arith, ints)) (omega (arith, ints)) in
     omega (arith, ints)

@@ -1,5 +1,6 @@
 pub mod Capped
 pub mod Combining
+pub mod Combining3
 pub mod Dividing
 mod Examples
 pub mod Lowest

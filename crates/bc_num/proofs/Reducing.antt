@@ -8,10 +8,11 @@ use Rattle.bc_algebra.proofs.Order.{cancel_eq, pos_of-mul}
 use Rattle.bc_num.specs.declared.p2.P2.{P2}
 use Rattle.bc_num.specs.declared.p3.P3.{P3}
 use Rattle.bc_num.specs.Divides.{IsGcdOf, IsGcdOf3, IsGcdOf4}
-use Rattle.bc_num.specs.Points.{IsSamePoint2, IsReduced2}
+use Rattle.bc_num.specs.Points.{IsSamePoint2, IsReduced2, IsSamePoint3, IsReduced3}
 use Rattle.bc_num.proofs.Dividing.{IsGcdOf3_of-two, IsGcdOf4_of-pairs, pos_divisor}
 use Rattle.bc_num.proofs.Combining.{Bezout, bezout, reduced_same}
-use Rattle.bc_num.proofs.Lowest.{IsOver2, IsOver3, IsSamePoint2_of-over, IsReduced2_of-over}
+use Rattle.bc_num.proofs.Combining3.{reduced_same3}
+use Rattle.bc_num.proofs.Lowest.{IsOver2, IsOver3, IsSamePoint2_of-over, IsReduced2_of-over, IsSamePoint3_of-over, IsReduced3_of-over}
 
 -- a common divisor that is a sum of multiples is the greatest
 pub IsGcdOf_of-bezout : (a b : ℤ) (h : Bezout a b) → IsGcdOf a b (pos h.divisor)
@@ -49,16 +50,16 @@ lowest2 p =
       over = record { positive = above; greatest = h; along_x = sym h.first.is; along_y = sym h.second.is; along_w = sym h.third.is };
     }
 
+crossed : (a u b v c w : ℤ) → pos 0 <ℤ v → a *ℤ v ≡ b *ℤ u → b *ℤ w ≡ c *ℤ v → a *ℤ w ≡ c *ℤ u
+crossed a u b v c w h e f =
+    cancel_eq (a *ℤ w) (c *ℤ u) v h (by_two w u e f (ring (a ∷ b ∷ c ∷ u ∷ v ∷ w ∷ []) (search quotes depth 30) refl))
+
 -- one place through another
 pub IsSamePoint2_trans : (p q r : P2) → IsSamePoint2 p q → IsSamePoint2 q r → IsSamePoint2 p r
 IsSamePoint2_trans p q r e f = record {
   along_x = crossed p.x p.w q.x q.w r.x r.w q.positive e.along_x f.along_x;
   along_y = crossed p.y p.w q.y q.w r.y r.w q.positive e.along_y f.along_y;
 }
-  where
-    crossed : (a u b v c w : ℤ) → pos 0 <ℤ v → a *ℤ v ≡ b *ℤ u → b *ℤ w ≡ c *ℤ v → a *ℤ w ≡ c *ℤ u
-    crossed a u b v c w h e f =
-        cancel_eq (a *ℤ w) (c *ℤ u) v h (by_two w u e f (ring (a ∷ b ∷ c ∷ u ∷ v ∷ w ∷ []) (search quotes depth 30) refl))
 
 -- whatever is that place in lowest terms has its numbers
 pub lowest2_is : (p r : P2) → IsSamePoint2 p r → IsReduced2 r → (lowest2 p).point ≡ r
@@ -92,3 +93,19 @@ lowest3 p =
       divisor = pos c.divisor;
       over = record { positive = above; greatest = h; along_x = sym h.first.is; along_y = sym h.second.is; along_z = sym h.third.is; along_w = sym h.fourth.is };
     }
+
+-- one place of space through another
+pub IsSamePoint3_trans : (p q r : P3) → IsSamePoint3 p q → IsSamePoint3 q r → IsSamePoint3 p r
+IsSamePoint3_trans p q r e f = record {
+  along_x = crossed p.x p.w q.x q.w r.x r.w q.positive e.along_x f.along_x;
+  along_y = crossed p.y p.w q.y q.w r.y r.w q.positive e.along_y f.along_y;
+  along_z = crossed p.z p.w q.z q.w r.z r.w q.positive e.along_z f.along_z;
+}
+
+-- whatever is that place in lowest terms has its numbers
+pub lowest3_is : (p r : P3) → IsSamePoint3 p r → IsReduced3 r → (lowest3 p).point ≡ r
+lowest3_is p r e h =
+    let l = lowest3 p in
+    let s = IsSamePoint3_of-over p l.point l.divisor l.over in
+    reduced_same3 l.point r (IsReduced3_of-over p l.point l.divisor l.over) h
+    (IsSamePoint3_trans l.point p r (record { along_x = sym s.along_x; along_y = sym s.along_y; along_z = sym s.along_z }) e)

@@ -4,7 +4,7 @@ use crate::V2;
 
 /// The exact disc of squared radius `r2` round `c`, in squares of the unit of coordinates. `r2` is at least 1, and the
 /// radius itself need not be whole.
-#[derive(Clone, Copy, Debug, PartialEq, Eq)]
+#[derive(Clone, Copy, Debug, PartialEq, Eq, Hash)]
 pub struct Disc2 {
     pub c: V2,
     pub r2: i64,
