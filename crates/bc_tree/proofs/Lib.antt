@@ -4,8 +4,9 @@ mod Frames
 mod Decides
 mod Same
 mod Near
-mod Half
+pub mod Half
 mod Stands
 mod LeafKinds
 mod Coprime
 pub mod Covers
+pub mod CoverHolds
