@@ -1,0 +1,5 @@
+pub mod Curves
+pub mod Noted
+pub mod Spans
+pub mod Masks
+pub mod Limits

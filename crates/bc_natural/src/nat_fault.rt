@@ -1,0 +1,30 @@
+ghost use Rattle.std.specs.Prelude.{◌≡◌};
+ghost use Rattle.bc_natural.specs.declared.nat_fault.NatFault.TheVariants.{Memory};
+
+use bc_num::Memory as NoMemory;
+use thiserror::Error;
+
+/// Why there is no table of an input's half-spaces.
+#[derive(Debug, Drop, PartialEq, Eq, Clone, Copy, Error)]
+pub enum NatFault {
+    /// There are `n` distinct planes, which is too many.
+    #[error("{n} planes are too many")]
+    TooManyPlanes { n: u64 },
+    /// There are `n` distinct lines, which is more than 24.
+    #[error("{n} lines are too many")]
+    TooManyLines { n: u64 },
+    /// There are `n` distinct discs, which is more than 8.
+    #[error("{n} discs are too many")]
+    TooManyDiscs { n: u64 },
+    /// There is no memory left.
+    #[error("out of memory")]
+    Memory,
+}
+
+impl From<NoMemory> for NatFault {
+    ghost from_gives = { λ _ e. e ≡ Memory };
+
+    fn from(_: NoMemory) -> Self {
+        NatFault::Memory
+    }
+}

@@ -1,0 +1,12 @@
+ghost use Rattle.std.specs.Prelude.{◌≤ℤ◌};
+ghost use Rattle.bc_algebra.specs.Within.{IsWithin};
+
+// The least and the greatest of some numbers along an axis: coordinates, and where the rims of circles end.
+#[derive(Clone, Copy)]
+pub(crate) struct Span {
+    pub(crate) low: i64,
+    pub(crate) high: i64,
+    pub(crate) ghost low_near: { IsWithin 3917 low },
+    pub(crate) ghost high_near: { IsWithin 3917 high },
+    pub(crate) ghost ordered: { low ≤ℤ high },
+}
