@@ -1,0 +1,14 @@
+pub mod Between
+pub mod Corners
+pub mod Drops
+pub mod Found
+pub mod Geometry
+pub mod Loops
+pub mod Regions
+pub mod SamplesWeighted
+pub mod SeenSets
+pub mod SeenSlots
+pub mod SeenWalk
+pub mod SeenWeights
+pub mod Shown
+pub mod Sized
