@@ -1,0 +1,5 @@
+pub mod Discs
+pub mod Halves
+pub mod Overlaps
+pub mod Parities
+pub mod Walks

@@ -1,0 +1,3 @@
+pub mod OddMasks
+pub mod RegionParities
+pub mod Splits

@@ -1,0 +1,19 @@
+//! Laws of masks and parities, for points with numbers of any size. Each is a function that does nothing: its promise is
+//! the law.
+ghost use Rattle.bc_natural.specs.Curves.{AreCurves};
+ghost use Rattle.bc_classify.specs.Splits.{OddMaskLaw};
+
+use bc_natural::CurveTable;
+use bc_parity::laws::{flip_law, straight_cell_law};
+use bc_solid::Profile;
+
+/// A point on no boundary is odd exactly where its mask is odd, at any point on none of the table's lines and Above the
+/// same of them.
+pub fn odd_mask_law(s: &Profile, c: &CurveTable)
+    requires table { AreCurves s.now c.now }
+    ensures { OddMaskLaw s.now c.now }
+{
+    s.law();
+    flip_law(s);
+    straight_cell_law(s);
+}
