@@ -1,5 +1,5 @@
 -- How the answer of a command follows from what was read and what was put.
-use Rattle.std.proofs.Common.{◌≡◌, ℕ, List, [], length, Option, None, Some, Result, Ok, Err, refl, sym, ap, ◌∙◌, subst, arith, inl, inr}
+use Rattle.std.proofs.Common.{◌≡◌, ◌≢◌, ℕ, List, [], length, Option, None, Some, Result, Ok, Err, refl, sym, ap, ◌∙◌, subst, arith, inl, inr}
 use Rattle.std.specs.Prelude.{IfSome}
 use Rattle.std.specs.Io.KnownBytes.{Keeps}
 use Rattle.bc_num.specs.declared.p2.P2.{P2}
@@ -7,9 +7,14 @@ use Rattle.bc_num.specs.declared.box2.Box2.{Box2}
 use Rattle.bc_tree.specs.Shape.{Shape}
 use Rattle.bc_text.specs.Layout.{layout}
 use Rattle.bc_text.specs.declared.note.Head.TheVariants.{Contour}
-use Rattle.bc_top.proofs.Circles.{described_by}
+use Rattle.bc_top.proofs.Described.{described_by}
 use Rattle.bc_solid.specs.declared.element.Element.{Element}
 use Rattle.bc_gcode.specs.declared.fault.GFault.{GFault}
+use Rattle.bc_natural.specs.declared.nat_fault.NatFault.{NatFault}
+use Rattle.bc_natural.specs.declared.nat_fault.NatFault.TheVariants as limits
+use Rattle.bc_natural.specs.Curves.{Curves}
+use Rattle.bc_natural.specs.Limits.{IsLimitFault, IsWithinLimits}
+use Rattle.bc_natural.proofs.Table.{one_table}
 use Rattle.bc_gcode.specs.Gcode.{contours_of}
 use Rattle.bc_solid.specs.Closed.{joined, AreClosed}
 use Rattle.bc_top.specs.declared.status.Refusal.{Refusal}
@@ -41,18 +46,27 @@ no_fault bytes (refusals.G f) es h k = not_both k.of_text f (contours_of bytes) 
 no_fault bytes (refusals.Contour f) es h k = h.1.3 (subst AreClosed (read_once k.of_text h.1.0 (contours_of bytes) k.read h.1.1) k.closed)
 no_fault bytes refusals.PointTooFine es h k = absurd h
 no_fault bytes refusals.PointOffPlane es h k = absurd h
-no_fault bytes refusals.NotThisForm es h k = absurd h
+no_fault bytes (refusals.Limit f) es h k = absurd h
 
 one_profile : (bytes : List ℕ) (es fs : List Element) → HasProfile bytes es → HasProfile bytes fs → es ≡ fs
 one_profile bytes es fs h k = sym h.whole ∙ ap joined (read_once h.of_text k.of_text (contours_of bytes) h.read k.read) ∙ k.whole
 
-pub no_refusal : (bytes : List ℕ) (f : Refusal) (es : List Element) → IsConvertRefusal bytes f → HasProfile bytes es → length es ≡ 1 → ⊥
-no_refusal bytes refusals.NotThisForm es (fs, h, n) k one = n (ap length (one_profile bytes fs es h k) ∙ one)
-no_refusal bytes refusals.TooLong es h k one = no_fault bytes refusals.TooLong es h k
-no_refusal bytes (refusals.G f) es h k one = no_fault bytes (refusals.G f) es h k
-no_refusal bytes (refusals.Contour f) es h k one = no_fault bytes (refusals.Contour f) es h k
-no_refusal bytes refusals.PointTooFine es h k one = absurd h
-no_refusal bytes refusals.PointOffPlane es h k one = absurd h
+-- the elements have one table, so a limit that they pass is one that they do not keep
+past_limit : (es : List Element) (f : NatFault) → f ≢ limits.Memory → IsLimitFault es f → IsWithinLimits es → ⊥
+past_limit es (limits.TooManyPlanes n) some h (t, k, few) = absurd h
+past_limit es (limits.TooManyLines n) some (u, h, e, more) (t, k, few) =
+    absurd (let size : length u.lines ≡ length t.lines = ap (λ (c : Curves). length c.lines) (one_table es u t h k) in omega (arith, few.lines))
+past_limit es (limits.TooManyDiscs n) some (u, h, kept, e, more) (t, k, few) =
+    absurd (let size : length u.discs ≡ length t.discs = ap (λ (c : Curves). length c.discs) (one_table es u t h k) in omega (arith, few.discs))
+past_limit es limits.Memory some h w = absurd (some refl)
+
+pub no_refusal : (bytes : List ℕ) (f : Refusal) (es : List Element) → IsConvertRefusal bytes f → HasProfile bytes es → IsWithinLimits es → ⊥
+no_refusal bytes (refusals.Limit f) es (fs, h, fault, some) k within = past_limit fs f some fault (subst IsWithinLimits (one_profile bytes es fs k h) within)
+no_refusal bytes refusals.TooLong es h k within = no_fault bytes refusals.TooLong es h k
+no_refusal bytes (refusals.G f) es h k within = no_fault bytes (refusals.G f) es h k
+no_refusal bytes (refusals.Contour f) es h k within = no_fault bytes (refusals.Contour f) es h k
+no_refusal bytes refusals.PointTooFine es h k within = absurd h
+no_refusal bytes refusals.PointOffPlane es h k within = absurd h
 
 -- ---- what was read and put
 
@@ -93,7 +107,7 @@ converts_none (Refused f) r w h k = record {
   text = puts_none IsConverted IsConvertRefusal (Refused f) r w h k;
   refused = h;
   read_fault = tt;
-  accepted = for_some r.left (λ bytes. IsConvertRefusal bytes f) (λ bytes. (es : List Element) → HasProfile bytes es → length es ≡ 1 → ⊥) (λ bytes g es a one. no_refusal bytes f es g a one) h;
+  accepted = for_some r.left (λ bytes. IsConvertRefusal bytes f) (λ bytes. (es : List Element) → HasProfile bytes es → IsWithinLimits es → ⊥) (λ bytes g es a within. no_refusal bytes f es g a within) h;
 }
 converts_none ReadFault r w h k = record { text = puts_none IsConverted IsConvertRefusal ReadFault r w h k; refused = tt; read_fault = h; accepted = tt }
 converts_none Memory r w h k = record { text = puts_none IsConverted IsConvertRefusal Memory r w h k; refused = tt; read_fault = tt; accepted = tt }
@@ -104,7 +118,7 @@ converts_none Usage r w h k = absurd h
 pub converts_print : (s : Status) (r : Reading) (w : Writing) (bytes : List ℕ) (b : Box2) (t : Shape) → IsRead r bytes → IsFormulaOf bytes b t → IsPut (layout (Contour b) [] t) s w → Converts s r w
 converts_print s r w bytes b t h f p =
     converts_put s r w bytes (layout (Contour b) [] t) h
-    (record { elements = f.elements; of_bytes = f.of_bytes; one = f.one; described = described_by f.elements b t (layout (Contour b) [] t) f.formula refl }) p
+    (record { elements = f.elements; of_bytes = f.of_bytes; described = described_by f.elements b t (layout (Contour b) [] t) f.formula refl }) p
 
 -- ---- side contour
 
@@ -151,7 +165,7 @@ refused_point q refusals.PointOffPlane o h k = h.1 k.flat
 refused_point q refusals.TooLong o h k = absurd h
 refused_point q (refusals.G f) o h k = absurd h
 refused_point q (refusals.Contour f) o h k = absurd h
-refused_point q refusals.NotThisForm o h k = absurd h
+refused_point q (refusals.Limit f) o h k = absurd h
 
 always_some : {A : Type 0} (o : Option A) (P : A → Type 0) → ((x : A) → P x) → IfSome o P
 always_some None P h = tt

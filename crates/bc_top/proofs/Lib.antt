@@ -1,6 +1,8 @@
-pub mod Circles
+mod Leaves
+mod Masks
+mod Formulas
+mod Described
 pub mod Reporting
 mod Words
-mod OneElement
 mod Queries
 mod Answering

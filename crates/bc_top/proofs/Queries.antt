@@ -7,7 +7,7 @@ use Rattle.bc_num.specs.declared.p2.P2.{P2}
 use Rattle.bc_num.specs.Sizes.{IsSmallPoint}
 use Rattle.bc_top.specs.declared.command.Query.{Query as Asked}
 use Rattle.bc_top.specs.declared.status.Refusal.{Refusal}
-use Rattle.bc_top.specs.declared.status.Refusal.TheVariants.{PointTooFine, PointOffPlane, TooLong, G, Contour, NotThisForm}
+use Rattle.bc_top.specs.declared.status.Refusal.TheVariants.{PointTooFine, PointOffPlane, TooLong, G, Contour, Limit}
 use Rattle.bc_top.specs.Commands.{Query, is_too_fine}
 use Rattle.bc_top.specs.Reading.{capped, capped_query, is_past, IsPointOf, Refuses}
 use Rattle.bc_top.specs.Answers.{IsAsked, IsPointRefusal}
@@ -89,7 +89,7 @@ point_refused q PointOffPlane h = (sym (past_same q) ∙ h.0, λ e. h.1 (zero_cu
 point_refused q TooLong h = absurd h
 point_refused q (G f) h = absurd h
 point_refused q (Contour f) h = absurd h
-point_refused q NotThisForm h = absurd h
+point_refused q (Limit f) h = absurd h
 
 -- ---- the point of the numbers as they were read
 

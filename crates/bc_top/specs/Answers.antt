@@ -13,6 +13,8 @@ use Rattle.bc_solid.specs.HalfSpaces.{IsOff}
 use Rattle.bc_solid.specs.ContourFaults.{first_fault}
 use Rattle.bc_parity.specs.Odd.{Odd}
 use Rattle.bc_gcode.specs.Gcode.{Gcode, FirstFault}
+use Rattle.bc_natural.specs.declared.nat_fault.NatFault.TheVariants as limits
+use Rattle.bc_natural.specs.Limits.{IsLimitFault, IsWithinLimits}
 use Rattle.bc_top.specs.declared.status.Refusal.{Refusal}
 use Rattle.bc_top.specs.declared.status.Refusal.TheVariants as refusals
 use Rattle.bc_top.specs.declared.status.Status.{Status}
@@ -77,31 +79,29 @@ pub record Puts (Text : List ℕ → List ℕ → Type 0) (s : Status) (r : Read
 
 -- ---- convert contour
 
--- the first cause why a boundary text is not converted: it is none, or its elements are not one alone
+-- the first cause why a boundary text is not converted: it is none, or it has too many half-spaces
 abbrev pub IsConvertRefusal : List ℕ → Refusal → Type 0
-IsConvertRefusal bytes refusals.NotThisForm = (es : List Element) × HasProfile bytes es × (length es ≢ 1)
+IsConvertRefusal bytes (refusals.Limit f) = (es : List Element) × HasProfile bytes es × IsLimitFault es f × (f ≢ limits.Memory)
 IsConvertRefusal bytes f = IsTextFault bytes f
 
 -- this tree is one for these bytes, in the tile of their box
 pub record IsFormulaOf (bytes : List ℕ) (b : Box2) (t : Shape) : Type 0 where
   pub elements : List Element
   pub of_bytes : HasProfile bytes elements
-  pub one : length elements ≡ 1
   pub formula : IsFormula elements b t
 
 -- these bytes are converted to this text
 pub record IsConverted (bytes text : List ℕ) : Type 0 where
   pub elements : List Element
   pub of_bytes : HasProfile bytes elements
-  pub one : length elements ≡ 1
   pub described : Describes elements text
 
 pub record Converts (s : Status) (r : Reading) (w : Writing) : Type 0 where
   pub text : Puts IsConverted s r w
   pub refused : IfRefused s (λ f. IfSome r.left (λ bytes. IsConvertRefusal bytes f))
   pub read_fault : IfReadFault s (Rose r.before r.after)
-  -- one closed full circle is not refused
-  pub accepted : IfRefused s (λ f. IfSome r.left (λ bytes. (es : List Element) → HasProfile bytes es → length es ≡ 1 → ⊥))
+  -- closed contours within the limits are not refused
+  pub accepted : IfRefused s (λ f. IfSome r.left (λ bytes. (es : List Element) → HasProfile bytes es → IsWithinLimits es → ⊥))
 
 -- ---- side contour
 

@@ -1,32 +1,59 @@
 -- What a converted text means: it spells one tree, which holds at a point inside the box and on no half-space boundary
 -- exactly if the downward ray from there crosses the boundary an odd number of times. Nothing here knows how the tree
 -- was found.
-use Rattle.std.specs.Prelude.{◌≡◌, ◌↔◌, List, [], ◌∷◌, ℕ}
+use Rattle.std.specs.Prelude.{◌≡◌, ◌↔◌, ◌<◌, ◌+◌, ◌^◌, ℕ, neg_ℤ, List, ◌∷◌, ◌++◌, map, length, Some, slice_get, bit_and}
+use Rattle.std.specs.List.{All}
+use Rattle.bc_num.specs.declared.v2.V2.{V2}
 use Rattle.bc_num.specs.declared.p2.P2.{P2}
 use Rattle.bc_num.specs.declared.box2.Box2.{Box2}
-use Rattle.bc_num.specs.declared.disc2.Disc2.{Disc2}
 use Rattle.bc_num.specs.Lines.{lines}
+use Rattle.bc_space.specs.declared.line2.Line2.{Line2}
 use Rattle.bc_solid.specs.declared.element.Element.{Element}
-use Rattle.bc_solid.specs.HalfSpaces.{HalfSpace, half_spaces, IsOff}
-use Rattle.bc_solid.specs.HalfSpaces as spaces
+use Rattle.bc_solid.specs.HalfSpaces.{IsOff}
 use Rattle.bc_solid.specs.Boxes.{IsBoxOf, IsInside, IsOutside}
 use Rattle.bc_parity.specs.Odd.{Odd}
-use Rattle.bc_tree.specs.declared.tree.Leaf.TheVariants.{Disc, Tile}
-use Rattle.bc_tree.specs.Shape.{Shape, leaf, union, meet, cut, none, child}
+use Rattle.bc_natural.specs.Curves.{Curves, AreCurves}
+use Rattle.bc_cover.specs.declared.term.Term.{Term}
+use Rattle.bc_cover.specs.Covers.{Precedes}
+use Rattle.bc_tree.specs.declared.tree.Leaf.{Leaf}
+use Rattle.bc_tree.specs.declared.tree.Leaf.TheVariants.{Strip, Disc, Tile}
+use Rattle.bc_tree.specs.Shape.{Shape}
+use Rattle.bc_tree.specs.Cuts.{cover_shape}
 use Rattle.bc_tree.specs.Holds.{Holds2}
 use Rattle.bc_tree.specs.Spells.{Spells, IsAllowed}
 use Rattle.bc_text.specs.Layout.{kind_line, box_line}
 use Rattle.bc_text.specs.declared.note.Head.TheVariants.{Contour}
 
--- a union of one cut: the tile and the disc, and nothing taken away
-abbrev pub disc_in_tile : Box2 → Disc2 → Shape
-disc_in_tile b d = union (child (cut (meet (child (leaf (Tile b)) (child (leaf (Disc d)) none))) none) none)
+-- ---- the leaves of the half-spaces
 
--- the tree is in normal form: each leaf is the box of the input or a half-space of it
+-- the direction whose normal, turned to the left, is that of the line
+abbrev pub direction_of : Line2 → V2
+direction_of l = record { x = l.b; y = neg_ℤ l.a }
+
+-- the strip of a line with its origin
+abbrev pub strip_leaf : Line2 × V2 → Leaf
+strip_leaf e = Strip (record { o = e.1; u = direction_of e.0 })
+
+-- of each half-space its leaf: the strips of the lines, and behind them the discs
+abbrev pub leaves_of : Curves → List Leaf
+leaves_of t = map strip_leaf t.lines ++ map Disc t.discs
+
+-- the term has bits of half-spaces alone, and none in both of its words
+pub record IsOfTable (t : Curves) (term : Term) : Type 0 where
+  pub pos_below : term.pos < 2 ^ length (leaves_of t)
+  pub neg_below : term.neg < 2 ^ length (leaves_of t)
+  pub apart : bit_and term.pos term.neg ≡ 0
+
+-- the tree is in normal form: a union of terms, each the box and half-spaces of the input, of which some are taken away.
+-- In each part they stand in the order of the table, and the terms ascend by their positive half-spaces and then by those
+-- taken away
 pub record IsNormal (es : List Element) (b : Box2) (t : Shape) : Type 0 where
-  pub disc : Disc2
-  pub of_input : half_spaces es ≡ spaces.Disc disc.c disc.r2 ∷ []
-  pub form : t ≡ disc_in_tile b disc
+  pub table : Curves
+  pub of_input : AreCurves es table
+  pub terms : List Term
+  pub of_table : All (IsOfTable table) terms
+  pub ascend : (i : ℕ) (one next : Term) → slice_get terms i ≡ Some one → slice_get terms (i + 1) ≡ Some next → Precedes one next
+  pub form : t ≡ cover_shape (Tile b) (leaves_of table) terms
 
 -- the tree means the elements, within the box
 pub record Means (es : List Element) (b : Box2) (t : Shape) : Type 0 where

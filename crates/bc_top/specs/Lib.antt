@@ -1,5 +1,5 @@
 pub mod Headline
-pub mod Circle
+pub mod Divisions
 pub mod Commands
 pub mod Reading
 pub mod Streams

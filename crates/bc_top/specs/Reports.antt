@@ -9,10 +9,12 @@ use Rattle.bc_solid.specs.declared.contour_fault.ContourFault.{ContourFault}
 use Rattle.bc_solid.specs.declared.contour_fault.ContourFault.TheVariants as closing
 use Rattle.bc_gcode.specs.declared.fault.GFault.{GFault}
 use Rattle.bc_gcode.specs.declared.fault.GFault.TheVariants as grammar
+use Rattle.bc_natural.specs.declared.nat_fault.NatFault.{NatFault}
+use Rattle.bc_natural.specs.declared.nat_fault.NatFault.TheVariants as limits
 use Rattle.bc_top.specs.declared.pieces.Piece.{Piece}
-use Rattle.bc_top.specs.declared.pieces.Piece.TheVariants.{Text, Count, Number}
+use Rattle.bc_top.specs.declared.pieces.Piece.TheVariants.{Text, Count, Long, Number}
 use Rattle.bc_top.specs.declared.status.Refusal.{Refusal}
-use Rattle.bc_top.specs.declared.status.Refusal.TheVariants.{PointTooFine, PointOffPlane, TooLong, G, Contour, NotThisForm}
+use Rattle.bc_top.specs.declared.status.Refusal.TheVariants.{PointTooFine, PointOffPlane, TooLong, G, Contour, Limit}
 use Rattle.bc_top.specs.declared.status.Status.{Status}
 use Rattle.bc_top.specs.declared.status.Status.TheVariants.{Done, Refused, Usage, ReadFault, WriteFault, Memory}
 
@@ -55,13 +57,22 @@ closing_line (closing.ZeroRadius at) = codes "refused: ZeroRadius element " ++ (
 closing_line (closing.SkewArc at start2 end2) = skew_text at start2 end2
 closing_line closing.Memory = codes "out of memory\n"
 
+abbrev pub counted_text : List ℕ → ℕ → List ℕ
+counted_text name n = codes "refused: " ++ (name ++ (codes " " ++ (decimal n ++ codes "\n")))
+
+abbrev pub limit_line : NatFault → List ℕ
+limit_line (limits.TooManyPlanes n) = counted_text (codes "TooManyPlanes") n
+limit_line (limits.TooManyLines n) = counted_text (codes "TooManyLines") n
+limit_line (limits.TooManyDiscs n) = counted_text (codes "TooManyDiscs") n
+limit_line limits.Memory = codes "out of memory\n"
+
 abbrev pub refusal_line : Refusal → List ℕ
 refusal_line PointTooFine = refused_text (codes "PointTooFine")
 refusal_line PointOffPlane = refused_text (codes "PointOffPlane")
 refusal_line TooLong = refused_text (codes "TooLong")
 refusal_line (G f) = grammar_line f
 refusal_line (Contour f) = closing_line f
-refusal_line NotThisForm = refused_text (codes "NotThisForm")
+refusal_line (Limit f) = limit_line f
 
 abbrev pub line : Status → List ℕ
 line Done = []
@@ -86,6 +97,7 @@ Notes s old new before now = HasLine (line s) old new before now
 abbrev pub piece_text : Piece → List ℕ
 piece_text (Text text) = text.now
 piece_text (Count n) = decimal n
+piece_text (Long n) = decimal n
 piece_text (Number z) = signed_decimal z.now
 
 abbrev pub pieces_text : List Piece → List ℕ

@@ -9,9 +9,9 @@ ghost use Rattle.bc_top.specs.Reading.{capped_query, parsed, IsSound};
 ghost use Rattle.bc_top.specs.Reports.{Notes};
 ghost use Rattle.bc_top.specs.Streams.{reading, writing};
 
-use crate::circle::Formula;
 use crate::command::{Command, Query, read_command};
 use crate::convert::converted;
+use crate::formula::Formula;
 use crate::reports::report;
 use crate::side::{point_of, sided};
 use crate::status::Status;

@@ -3,9 +3,9 @@
 
 mod answer;
 mod boundary;
-mod circle;
 mod command;
 mod convert;
+mod formula;
 mod pieces;
 mod reports;
 mod side;

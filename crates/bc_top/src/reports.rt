@@ -1,12 +1,13 @@
 ghost use Rattle.std.specs.Prelude.{◌≡◌};
 ghost use Rattle.bc_io.specs.Causes.{HasCause};
 ghost use Rattle.bc_io.specs.Pieces.{Puts};
-ghost use Rattle.bc_top.specs.Reports.{refused_text, at_line, at_word, open_text, skew_text, grammar_line, closing_line, refusal_line, line, Notes};
+ghost use Rattle.bc_top.specs.Reports.{refused_text, at_line, at_word, open_text, skew_text, grammar_line, closing_line, counted_text, limit_line, refusal_line, line, Notes};
 
 use crate::pieces::{Piece, put_pieces};
 use crate::status::{Refusal, Status};
 use bc_gcode::GFault;
 use bc_io::{Failed, Sink, put_all};
+use bc_natural::NatFault;
 use bc_num::V2;
 use bc_solid::ContourFault;
 
@@ -140,6 +141,34 @@ fn put_closing<K: Sink>(fault: &ContourFault, out: &mut K) -> Result<(), Failed>
     }
 }
 
+fn put_counted<K: Sink>(name: &[u8], n: u64, out: &mut K) -> Result<(), Failed>
+    ensures bytes { Puts (K.held out.old) (K.held out.new) result (counted_text name.now n) }
+    ensures cause { HasCause (K.faults out.old) (K.faults out.new) result }
+{
+    put_pieces(
+        &[
+            Piece::Text(b"refused: "),
+            Piece::Text(name),
+            Piece::Text(b" "),
+            Piece::Long(n),
+            Piece::Text(b"\n"),
+        ],
+        out,
+    )
+}
+
+fn put_limit<K: Sink>(fault: &NatFault, out: &mut K) -> Result<(), Failed>
+    ensures bytes { Puts (K.held out.old) (K.held out.new) result (limit_line fault.now) }
+    ensures cause { HasCause (K.faults out.old) (K.faults out.new) result }
+{
+    match fault {
+        NatFault::TooManyPlanes { n } => put_counted(b"TooManyPlanes", *n, out),
+        NatFault::TooManyLines { n } => put_counted(b"TooManyLines", *n, out),
+        NatFault::TooManyDiscs { n } => put_counted(b"TooManyDiscs", *n, out),
+        NatFault::Memory => put_all(out, b"out of memory\n"),
+    }
+}
+
 fn put_refusal<K: Sink>(refusal: &Refusal, out: &mut K) -> Result<(), Failed>
     ensures bytes { Puts (K.held out.old) (K.held out.new) result (refusal_line refusal.now) }
     ensures cause { HasCause (K.faults out.old) (K.faults out.new) result }
@@ -150,7 +179,7 @@ fn put_refusal<K: Sink>(refusal: &Refusal, out: &mut K) -> Result<(), Failed>
         Refusal::TooLong => put_refused(b"TooLong", out),
         Refusal::G(fault) => put_grammar(fault, out),
         Refusal::Contour(fault) => put_closing(fault, out),
-        Refusal::NotThisForm => put_refused(b"NotThisForm", out),
+        Refusal::Limit(fault) => put_limit(fault, out),
     }
 }
 

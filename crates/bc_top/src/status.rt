@@ -2,6 +2,7 @@ ghost use Rattle.std.specs.Prelude.{◌≡◌};
 ghost use Rattle.bc_top.specs.Status.{code_of};
 
 use bc_gcode::GFault;
+use bc_natural::NatFault;
 use bc_solid::ContourFault;
 
 /// Why good words are not answered: the first cause in the order of this list. A fault inside is never a want of
@@ -18,8 +19,8 @@ pub enum Refusal {
     G(GFault),
     /// The contours are not closed.
     Contour(ContourFault),
-    /// The contours are not one full circle, the only boundary that is converted so far.
-    NotThisForm,
+    /// The contours have more distinct lines, or else more distinct discs, than a conversion takes.
+    Limit(NatFault),
 }
 
 /// How a run of the program ended.
