@@ -27,7 +27,7 @@ pub record IsPointOf (x y w : ℤ) (c : P2) : Type 0 where
   pub w_is : factor *ℤ c.w ≡ w
   pub reduced : IsReduced2 c
 
-turned_by : (g c x : ℤ) → c *ℤ g ≡ neg_ℤ x → neg_ℤ g *ℤ c ≡ x
+pub turned_by : (g c x : ℤ) → c *ℤ g ≡ neg_ℤ x → neg_ℤ g *ℤ c ≡ x
 turned_by g c x e = by_one (neg_ℤ (pos 1)) e (ring (g ∷ c ∷ x ∷ []) (search quotes depth 30) refl)
 
 at_right : (x y : ℤ) (n : _) → IsPointOf x y (pos (suc n)) ((lowest2 (record { x = x; y = y; w = pos (suc n); positive = pos-pos n })).point)

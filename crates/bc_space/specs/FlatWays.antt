@@ -24,7 +24,7 @@ record Way2 : Type 0 where
 abbrev slope2 : Line2 → Way2 → ℤ
 slope2 h u = h.a *ℤ u.x +ℤ h.b *ℤ u.y
 
-grown : (n : ℕ) (w : ℤ) → pos 0 <ℤ w → pos 0 <ℤ (pos (suc n) *ℤ w)
+pub grown : (n : ℕ) (w : ℤ) → pos 0 <ℤ w → pos 0 <ℤ (pos (suc n) *ℤ w)
 grown n w h = pos-mul (pos (suc n)) w (pos-pos n) h
 
 abbrev move2 : P2 → ℕ → ℕ → Way2 → P2
@@ -48,7 +48,7 @@ moved a b d x y w s t ux uy = ring (a ∷ b ∷ d ∷ x ∷ y ∷ w ∷ s ∷ t 
 turned : (a b x y : ℤ) → a *ℤ neg_ℤ x +ℤ b *ℤ neg_ℤ y ≡ neg_ℤ (a *ℤ x +ℤ b *ℤ y)
 turned a b x y = ring (a ∷ b ∷ x ∷ y ∷ []) (search quotes depth 30) refl
 
-neg_some : (z : ℤ) → neg_ℤ z ≡ pos 0 → z ≡ pos 0
+pub neg_some : (z : ℤ) → neg_ℤ z ≡ pos 0 → z ≡ pos 0
 neg_some z e = omega (arith, ints)
 
 -- ---- directions
@@ -64,7 +64,7 @@ across a b c d = ring (a ∷ b ∷ c ∷ d ∷ []) (search quotes depth 30) refl
 across_back : (a b c d : ℤ) → a *ℤ neg_ℤ d +ℤ b *ℤ c ≡ c *ℤ b -ℤ d *ℤ a
 across_back a b c d = ring (a ∷ b ∷ c ∷ d ∷ []) (search quotes depth 30) refl
 
-neg-zero : (z : ℤ) → z ≡ pos 0 → neg_ℤ z ≡ pos 0
+pub neg-zero : (z : ℤ) → z ≡ pos 0 → neg_ℤ z ≡ pos 0
 neg-zero z e = omega (arith, ints)
 
 abbrev beside : Line2 → Way2

@@ -12,3 +12,7 @@ pub mod FlatWays
 pub mod FlatLaws
 pub mod Planes
 pub mod PlanesThrough
+pub mod Solid
+pub mod SolidMeets
+pub mod SolidWays
+pub mod SolidLaws
