@@ -1,5 +1,5 @@
 -- The corners of a part of a cell, from those of the cell and the new meets, and the corners of the box.
-use Rattle.std.specs.Prelude.{◌≡◌, ◌≢◌, ◌↔◌, ℕ, ◌+◌, ◌<◌, ◌≤◌, List, [], ◌∷◌, ◌++◌, length, map, Option, Some, take}
+use Rattle.std.specs.Prelude.{◌≡◌, ◌≢◌, ◌↔◌, ℕ, ◌+◌, ◌<◌, ◌≤◌, List, [], ◌∷◌, ◌++◌, length, map, Option, take}
 use Rattle.std.specs.List.{All, Contains}
 use Rattle.std.proofs.Common.{refl, sym, ap, ◌∙◌, subst, inl, inr, arith, get_or}
 use Rattle.std.proofs.lemmas.List.Elements.{All-append, All-push, All-nil, All-map, Contains-get_or}
@@ -12,7 +12,7 @@ use Rattle.bc_cells.specs.declared.constraint.Constraint.{Constraint}
 use Rattle.bc_cells.specs.Gathers.{Gathers}
 use Rattle.bc_cells.specs.Constraints.{Toward, HasVertices, IsOnce, IsMeetOn, halves_of, facing, inward, part_constraints}
 use Rattle.bc_cells.proofs.Lists.{all_front, all_back, all_unmap, contains_none, once_nil}
-use Rattle.bc_cells.proofs.Choices.{part_all, meet_keep, meet_on, meet_last, meet_none}
+use Rattle.bc_cells.proofs.Choices.{meet_keep, meet_on, meet_last, meet_none}
 use Rattle.bc_cells.proofs.Gather.{take_step}
 use Rattle.bc_cells.proofs.Regions.{halves_facing, above_not_on}
 
