@@ -13,18 +13,18 @@ use Rattle.bc_lex.specs.Order.{is_one_line, IsLineEnd, LineStands, LinesStandInO
 use Rattle.bc_lex.specs.declared.gwords.Front.TheVariants.{Nothing, Bad, Item}
 use Rattle.bc_lex.proofs.Nexts.{drop-min}
 
-left-of : (a b : Bool) → (a && b) ≡ true → a ≡ true
+pub left-of : (a b : Bool) → (a && b) ≡ true → a ≡ true
 left-of true b h = refl
 left-of false b h = h
 
-right-of : (a b : Bool) → (a && b) ≡ true → b ≡ true
+pub right-of : (a b : Bool) → (a && b) ≡ true → b ≡ true
 right-of true b h = h
 right-of false b h = cc
 
 lt-is : (n m : ℕ) → nat_lt n m ≡ true → n < m
 lt-is n m h = grind arith
 
-take-more : (b n : ℕ) (bs : List ℕ) → take (n + 1) (b ∷ bs) ≡ b ∷ take n bs
+pub take-more : (b n : ℕ) (bs : List ℕ) → take (n + 1) (b ∷ bs) ≡ b ∷ take n bs
 take-more b n bs = rw add-one refl
 
 -- ---- lines
@@ -158,9 +158,9 @@ mutual
   closes-is (b ∷ bs) = closes-at b bs (is_close b) refl (gap-is bs) (closes-is bs)
 
 -- the first n bytes are blanks
-record Blanks (bs : List ℕ) (n : ℕ) : Type 0 where
-  within : n ≤ length bs
-  are : are_blanks (take n bs) ≡ true
+pub record Blanks (bs : List ℕ) (n : ℕ) : Type 0 where
+  pub within : n ≤ length bs
+  pub are : are_blanks (take n bs) ≡ true
 
 blanks-at : (b : ℕ) (bs : List ℕ) (blank : Bool) → is_blank b ≡ blank → Blanks bs (blanks bs) → Blanks (b ∷ bs) (blanks (b ∷ bs))
 blanks-at b bs true e s =
@@ -172,7 +172,7 @@ blanks-at b bs false e s =
     let n : 0 ≡ blanks (b ∷ bs) = rw e refl in
     subst (Blanks (b ∷ bs)) n (record { within = omega arith; are = refl })
 
-blanks-is : (bs : List ℕ) → Blanks bs (blanks bs)
+pub blanks-is : (bs : List ℕ) → Blanks bs (blanks bs)
 blanks-is [] = record { within = omega arith; are = refl }
 blanks-is (b ∷ bs) = blanks-at b bs (is_blank b) refl (blanks-is bs)
 

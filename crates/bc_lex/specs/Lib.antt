@@ -1,5 +1,6 @@
 pub mod Places
 pub mod Lines
+pub mod Words
 pub mod GWords
 pub mod Left
 pub mod Order

@@ -1,4 +1,5 @@
 -- Where the lines of a text and the words of a line stand: in order, without overlap, and what stands between them.
+use Rattle.std.specs.List.{list_all}
 use Rattle.std.specs.Prelude.{◌≡◌, ◌⊎◌, ℕ, ◌+◌, Bool, true, false, not, ◌&&◌, List, [], ◌∷◌, ◌++◌, length, drop, Some, None, Ok, Err}
 use Rattle.bc_num.specs.Tokens.{is_letter}
 use Rattle.bc_num.specs.Numbers.{is_number}
@@ -7,6 +8,7 @@ use Rattle.bc_num.specs.Words.{capital, is_stop, is_gap, are_blanks, begins_word
 use Rattle.bc_lex.specs.Places.{LinePlace, WordPlace}
 use Rattle.bc_lex.specs.Lines.{ALine, next_line, after_line}
 use Rattle.bc_lex.specs.GWords.{AWord, next_word, after_word}
+use Rattle.bc_lex.specs.Words.{PlainWord, is_comment, is_part, goes_on, next_plain, after_plain}
 
 -- no LF is among the bytes
 abbrev pub is_one_line : List ℕ → Bool
@@ -93,3 +95,45 @@ WordsBreak = (p : WordPlace) (e : ℕ × ℕ) → next_word p ≡ Err e → Brea
 -- bytes that begin no word are answered again
 abbrev pub BreaksAgain : Type 0
 BreaksAgain = (p : WordPlace) (e : ℕ × ℕ) → next_word p ≡ Err e → next_word (after_word p) ≡ Err e
+
+-- ---- the words between blanks
+
+-- one or more bytes of words, and nothing else
+abbrev pub is_whole_word : List ℕ → Bool
+is_whole_word w = goes_on w && list_all is_part w
+
+-- from p on the line has blanks, the word, which begins at `from`, and what the place behind has, which does not go on with
+-- the word
+pub record PlainStands (p : WordPlace) (w : PlainWord) : Type 0 where
+  pub before : List ℕ
+  pub bytes : drop p.at p.text ≡ before ++ (w.text ++ drop (after_plain p).at p.text)
+  pub are_before : are_blanks before ≡ true
+  pub is_word : is_whole_word w.text ≡ true
+  pub is_whole : goes_on (drop (after_plain p).at p.text) ≡ false
+  pub from : w.from ≡ p.at + length before
+  pub behind : (after_plain p).at ≡ w.from + length w.text
+  pub line : w.line ≡ p.line
+  pub nth : w.nth ≡ p.nth + 1
+  pub line_behind : (after_plain p).line ≡ p.line
+  pub nth_behind : (after_plain p).nth ≡ p.nth + 1
+  pub text : (after_plain p).text ≡ p.text
+
+abbrev pub PlainStandInOrder : Type 0
+PlainStandInOrder = (p : WordPlace) (w : PlainWord) → next_plain p ≡ Some w → PlainStands p w
+
+-- the end of the line, or `#`
+abbrev pub is_plain_end : List ℕ → Bool
+is_plain_end [] = true
+is_plain_end (b ∷ bs) = is_comment b
+
+-- from p on the line has blanks and the end of its words
+pub record PlainEndsAt (p : WordPlace) : Type 0 where
+  pub before : List ℕ
+  pub rest : List ℕ
+  pub bytes : drop p.at p.text ≡ before ++ rest
+  pub are_before : are_blanks before ≡ true
+  pub is_end : is_plain_end rest ≡ true
+
+-- no word comes exactly at the end of the line's words
+abbrev pub PlainEnd : Type 0
+PlainEnd = (p : WordPlace) → next_plain p ≡ None → PlainEndsAt p

@@ -60,7 +60,8 @@ impl<'a> Model for GWords<'a> {
     ghost invariant = { λ w. record { short : length w.text.now < 2 ^ 32; within : w.at ≤ length w.text.now; few : w.nth ≤ w.at } };
 }
 
-fn blank_at(b: u8) -> bool
+/// Whether a byte is a blank: space, tab or CR.
+pub fn blank_at(b: u8) -> bool
     ensures { result ≡ is_blank b }
 {
     b == b' ' || b == b'\t' || b == b'\r'
@@ -78,7 +79,8 @@ fn capital_of(b: u8) -> u8
     if b >= b'a' && b <= b'z' { b - 32 } else { b }
 }
 
-fn count_blanks(bytes: &[u8]) -> usize
+/// How many blanks stand at the front.
+pub fn count_blanks(bytes: &[u8]) -> usize
     ensures value { result ≡ blanks bytes.now }
     ensures within { result ≤ length bytes.now }
 {

@@ -1,5 +1,5 @@
-ghost use Rattle.bc_lex.specs.Left.{NextLineIsFirst, NextWordIsFirst, AllWordsAreLeft};
-ghost use Rattle.bc_lex.specs.Order.{LinesStandInOrder, LinesEnd, WordsStandInOrder, WordsEnd, WordsBreak, BreaksAgain};
+ghost use Rattle.bc_lex.specs.Left.{NextLineIsFirst, NextWordIsFirst, AllWordsAreLeft, NextPlainIsFirst, AllPlainAreLeft};
+ghost use Rattle.bc_lex.specs.Order.{LinesStandInOrder, LinesEnd, WordsStandInOrder, WordsEnd, WordsBreak, BreaksAgain, PlainStandInOrder, PlainEnd};
 
 /// The lines that come one after another are the lines of the text.
 pub fn lines_law()
@@ -25,4 +25,17 @@ pub fn word_order_law()
     ensures end { WordsEnd }
     ensures bad { WordsBreak }
     ensures again { BreaksAgain }
+{}
+
+/// The words between blanks that come one after another are the words of the line.
+pub fn plain_words_law()
+    ensures next { NextPlainIsFirst }
+    ensures all { AllPlainAreLeft }
+{}
+
+/// The words between blanks stand in order, whole, and do not overlap, and before a word stand blanks. No word comes exactly
+/// at the end of the line's words, which is at a `#` or behind the line.
+pub fn plain_order_law()
+    ensures order { PlainStandInOrder }
+    ensures end { PlainEnd }
 {}
