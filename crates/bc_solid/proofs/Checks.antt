@@ -35,7 +35,7 @@ neither true y h = absurd (let q : false ≡ true = h in cc)
 neither false true h = absurd (let q : false ≡ true = h in cc)
 neither false false h = (refl, refl)
 
-is_false : (x : Bool) → not x ≡ true → x ≡ false
+pub is_false : (x : Bool) → not x ≡ true → x ≡ false
 is_false true h = absurd (let q : false ≡ true = h in cc)
 is_false false h = refl
 
@@ -47,7 +47,7 @@ same_yes a b h = both (int_eq a.x b.x) (int_eq a.y b.y) ((Decides-int_eq a.x b.x
 
 -- ---- near elements, and edges whose ends differ
 
-near : (z : ℤ) → is_far z ≡ false → IsWithin 1023 z
+pub near : (z : ℤ) → is_far z ≡ false → IsWithin 1023 z
 near z h = record { within = by (unsigned_abs z) h }
   where
     by : (n : ℕ) → nat_lt 1023 n ≡ false → n ≤ 1023

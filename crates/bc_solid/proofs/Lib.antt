@@ -1,3 +1,15 @@
+pub mod Solids
 pub mod Faults
 pub mod Walks
 pub mod Checks
+pub mod Lists
+pub mod Rounds
+pub mod Joins
+pub mod Collinear
+pub mod Coplanar
+pub mod FacePlanes
+pub mod Outlines
+pub mod EdgeLists
+pub mod EdgeTables
+pub mod MeshFaults
+pub mod Kept

@@ -3,3 +3,10 @@ pub mod Boxes
 pub mod Closed
 pub mod Contours
 pub mod ContourFaults
+pub mod Meshes
+pub mod Facets
+pub mod MeshFaults
+pub mod Boxes3
+pub mod RawMeshes
+pub mod FacePlanes
+pub mod EdgeTables
