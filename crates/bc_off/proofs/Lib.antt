@@ -1,0 +1,9 @@
+pub mod WordSteps
+pub mod RowSteps
+pub mod Chains
+pub mod Heads
+pub mod Runs
+pub mod FaceSteps
+pub mod Kept
+pub mod Reading
+pub mod Examples

@@ -1,0 +1,9 @@
+pub mod Answers
+pub mod Rows
+pub mod Left
+pub mod Entries
+pub mod Header
+pub mod Vertices
+pub mod Faces
+pub mod Off
+pub mod Laws
