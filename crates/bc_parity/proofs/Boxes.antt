@@ -98,10 +98,10 @@ pub record Holds (b : Box2) (es : List Element) : Type 0 where
   pub x_of : (z : ℤ) → Any (λ e. IsXOf e z) es → IsFrom b.x0 b.x1 z
   pub y_of : (z : ℤ) → Any (λ e. IsYOf e z) es → IsFrom b.y0 b.y1 z
 
-below_next : (a z : ℤ) → (a +ℤ pos 1) ≤ℤ z → a ≤ℤ z
+pub below_next : (a z : ℤ) → (a +ℤ pos 1) ≤ℤ z → a ≤ℤ z
 below_next a z h = omega (arith, ints)
 
-above_last : (a z : ℤ) → z ≤ℤ (a -ℤ pos 1) → z ≤ℤ a
+pub above_last : (a z : ℤ) → z ≤ℤ (a -ℤ pos 1) → z ≤ℤ a
 above_last a z h = omega (arith, ints)
 
 pub round_holds : (b : Box2) (es : List Element) → IsBoxRound es b → Holds b es

@@ -1,11 +1,17 @@
--- Crossings of arcs and contours, counted by hand.
-use Rattle.std.proofs.Common.{◌≡◌, true, false, List, [], ◌∷◌, refl, rules}
+-- Crossings of arcs, contours and faces, counted by hand.
+use Rattle.std.proofs.Common.{◌≡◌, ℕ, ◌+◌, ◌<◌, true, false, List, [], ◌∷◌, refl, rules}
+use Rattle.std.specs.Prelude.{unsigned_abs}
 use lib.IntN.{ℤ, pos, negsuc}
 use lib.Signed.{◌<ℤ◌}
 use Rattle.bc_num.specs.declared.v2.V2.{V2}
 use Rattle.bc_num.specs.declared.p2.P2.{P2}
 use Rattle.bc_solid.specs.declared.element.Element.{Element}
 use Rattle.bc_solid.specs.declared.element.Element.TheVariants.{Edge, Arc}
+use Rattle.bc_num.specs.declared.v3.V3.{V3}
+use Rattle.bc_num.specs.declared.p3.P3.{P3}
+use Rattle.bc_space.specs.declared.plane3.Plane3.{Plane3}
+use Rattle.bc_solid.specs.Facets.{Facet}
+use Rattle.bc_parity.specs.Faces.{is_face_crossed, is_odd3_at}
 use Rattle.bc_parity.specs.Crossings.{Arc as ArcOf, crossings_of_arc}
 use Rattle.bc_parity.specs.ChordLaw.{arc_of}
 use Rattle.bc_parity.specs.Sides.{is_on_arc_side}
@@ -92,3 +98,104 @@ bowl_in = refl
 -- with its chord in place of the arc
 bowl_straight : straight_crossings_in bowl (whole (pos 0) (negsuc 2)) ≡ 0
 bowl_straight = refl
+
+-- ---- faces
+
+abbrev place : ℕ → ℕ → ℕ → V3
+place x y z = record { x = pos x; y = pos y; z = pos z }
+
+abbrev spot : ℤ → ℤ → ℤ → P3
+spot x y z = record { x = x; y = y; z = z; w = pos 1; positive = one }
+
+abbrev half_spot : ℤ → ℤ → ℤ → P3
+half_spot x y z = record { x = x; y = y; z = z; w = pos 2; positive = two }
+
+along_z : 0 < unsigned_abs (pos 0) + unsigned_abs (pos 0) + unsigned_abs (pos 1)
+along_z = search rules
+
+along_y : 0 < unsigned_abs (pos 0) + unsigned_abs (pos 1) + unsigned_abs (pos 0)
+along_y = search rules
+
+along_x : 0 < unsigned_abs (pos 1) + unsigned_abs (pos 0) + unsigned_abs (pos 0)
+along_x = search rules
+
+aslant : 0 < unsigned_abs (pos 1) + unsigned_abs (pos 1) + unsigned_abs (pos 1)
+aslant = search rules
+
+-- the planes z = 0, y = 0, x = 0 and x + y + z = 3
+abbrev floor : Plane3
+floor = record { a = pos 0; b = pos 0; c = pos 1; d = pos 0; normal = along_z }
+
+abbrev front : Plane3
+front = record { a = pos 0; b = pos 1; c = pos 0; d = pos 0; normal = along_y }
+
+abbrev side : Plane3
+side = record { a = pos 1; b = pos 0; c = pos 0; d = pos 0; normal = along_x }
+
+abbrev slant : Plane3
+slant = record { a = pos 1; b = pos 1; c = pos 1; d = pos 3; normal = aslant }
+
+-- a tetrahedron at the origin
+abbrev wall : Facet
+wall = record { plane = side; corners = place 0 0 0 ∷ place 0 3 0 ∷ place 0 0 3 ∷ [] }
+
+abbrev tetra : List Facet
+tetra =
+    record { plane = floor; corners = place 0 0 0 ∷ place 3 0 0 ∷ place 0 3 0 ∷ [] }
+    ∷ record { plane = front; corners = place 0 0 0 ∷ place 3 0 0 ∷ place 0 0 3 ∷ [] }
+    ∷ wall
+    ∷ record { plane = slant; corners = place 3 0 0 ∷ place 0 3 0 ∷ place 0 0 3 ∷ [] }
+    ∷ []
+
+-- at (1/2, 1/2, 1/2), (1/2, 1/2, 5/2) and (1/2, 1/2, -1/2)
+tetra_inside : is_odd3_at tetra (half_spot (pos 1) (pos 1) (pos 1)) ≡ true
+tetra_inside = refl
+
+tetra_above : is_odd3_at tetra (half_spot (pos 1) (pos 1) (pos 5)) ≡ false
+tetra_above = refl
+
+tetra_below : is_odd3_at tetra (half_spot (pos 1) (pos 1) (negsuc 0)) ≡ false
+tetra_below = refl
+
+-- over a vertical face
+wall_missed : is_face_crossed wall (spot (pos 0) (pos 1) (pos 5)) ≡ false
+wall_missed = refl
+
+-- the two halves of a square, on either side of its rising diagonal, and on either side of its falling one
+abbrev right_below : Facet
+right_below = record { plane = floor; corners = place 0 0 0 ∷ place 2 0 0 ∷ place 2 2 0 ∷ [] }
+
+abbrev left_above : Facet
+left_above = record { plane = floor; corners = place 0 0 0 ∷ place 2 2 0 ∷ place 0 2 0 ∷ [] }
+
+abbrev left_below : Facet
+left_below = record { plane = floor; corners = place 0 0 0 ∷ place 2 0 0 ∷ place 0 2 0 ∷ [] }
+
+abbrev right_above : Facet
+right_above = record { plane = floor; corners = place 2 0 0 ∷ place 2 2 0 ∷ place 0 2 0 ∷ [] }
+
+-- over the diagonal the ray crosses the half to the right
+rising_right : is_face_crossed right_below (spot (pos 1) (pos 1) (pos 1)) ≡ true
+rising_right = refl
+
+rising_left : is_face_crossed left_above (spot (pos 1) (pos 1) (pos 1)) ≡ false
+rising_left = refl
+
+falling_right : is_face_crossed right_above (spot (pos 1) (pos 1) (pos 1)) ≡ true
+falling_right = refl
+
+falling_left : is_face_crossed left_below (spot (pos 1) (pos 1) (pos 1)) ≡ false
+falling_left = refl
+
+-- over the edges along the axes
+lower_edge : is_face_crossed right_below (spot (pos 1) (pos 0) (pos 1)) ≡ true
+lower_edge = refl
+
+upper_edge : is_face_crossed left_above (spot (pos 1) (pos 2) (pos 1)) ≡ false
+upper_edge = refl
+
+left_edge : is_face_crossed left_above (spot (pos 0) (pos 1) (pos 1)) ≡ true
+left_edge = refl
+
+right_edge : is_face_crossed right_below (spot (pos 2) (pos 1) (pos 1)) ≡ false
+right_edge = refl

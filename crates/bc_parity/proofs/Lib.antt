@@ -18,4 +18,15 @@ pub mod Ways
 pub mod OnEdge
 pub mod Profiles
 pub mod Loops
+pub mod Joins
+pub mod Marks
+pub mod Planes
+pub mod Middles
+pub mod Facets
+pub mod Rounds
+pub mod FaceLoops
+pub mod FaceCells
+pub mod Boxes3
+pub mod FaceOutside
+pub mod Meshes
 mod Examples

@@ -12,13 +12,13 @@ use Rattle.bc_parity.specs.OnEdge.{is_on_any}
 use Rattle.bc_parity.proofs.Xors.{xor_false, xor_assoc}
 use Rattle.bc_parity.proofs.OnEdge.{on_append}
 
-none : {X : Type 0} (es : List X) (i : ℕ) → length es ≤ i → drop i es ≡ []
+pub none : {X : Type 0} (es : List X) (i : ℕ) → length es ≤ i → drop i es ≡ []
 none [] zero h = refl
 none [] (suc i) h = refl
 none (e ∷ es) zero h = absurd (omega arith)
 none (e ∷ es) (suc i) h = none es i (omega arith)
 
-next : {X : Type 0} (es : List X) (i : ℕ) (e : X) → slice_get es i ≡ Some e → drop i es ≡ e ∷ drop (i + 1) es
+pub next : {X : Type 0} (es : List X) (i : ℕ) (e : X) → slice_get es i ≡ Some e → drop i es ≡ e ∷ drop (i + 1) es
 next es i e h =
     let l : i < length es = slice_get_within es i e h in
     let g : get_or es i e ≡ e = get_or_from_slice_get es i e e h in

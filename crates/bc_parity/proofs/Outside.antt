@@ -85,13 +85,13 @@ beside a b c contours p z closed h =
 
 -- ---- the four sides of a box
 
-past_low : (x0 v w x : ℤ) → pos 0 <ℤ w → x0 ≤ℤ v → x <ℤ (x0 *ℤ w) → pos 0 <ℤ (w *ℤ v -ℤ x)
+pub past_low : (x0 v w x : ℤ) → pos 0 <ℤ w → x0 ≤ℤ v → x <ℤ (x0 *ℤ w) → pos 0 <ℤ (w *ℤ v -ℤ x)
 past_low x0 v w x h k l =
     let m = mul_le x0 v w (nonneg_of-pos w h) k in
     let e : w *ℤ v ≡ v *ℤ w = ring (w ∷ v ∷ []) (search quotes depth 30) refl in
     omega (arith, ints)
 
-past_high : (x1 v w x : ℤ) → pos 0 <ℤ w → v ≤ℤ x1 → (x1 *ℤ w) <ℤ x → pos 0 <ℤ (x -ℤ w *ℤ v)
+pub past_high : (x1 v w x : ℤ) → pos 0 <ℤ w → v ≤ℤ x1 → (x1 *ℤ w) <ℤ x → pos 0 <ℤ (x -ℤ w *ℤ v)
 past_high x1 v w x h k l =
     let m = mul_le v x1 w (nonneg_of-pos w h) k in
     let e : w *ℤ v ≡ v *ℤ w = ring (w ∷ v ∷ []) (search quotes depth 30) refl in
@@ -110,14 +110,14 @@ high_y : (w v x y : ℤ) → pos 0 <ℤ (y -ℤ w *ℤ v) → pos 0 <ℤ (pos 0 
 high_y w v x y h = lt_by (y -ℤ w *ℤ v) (ring (w ∷ v ∷ y ∷ x ∷ []) (search quotes depth 30) refl) h
 
 -- a line through p that has all places of the box on one side
-record IsAside (p : P2) (b : Box2) : Type 0 where
-  a : ℤ
-  k : ℤ
-  c : ℤ
-  through : at_point a k c p ≡ pos 0
-  above : (v : V2) → IsIn b v → pos 0 <ℤ at_place a k c v
+pub record IsAside (p : P2) (b : Box2) : Type 0 where
+  pub a : ℤ
+  pub k : ℤ
+  pub c : ℤ
+  pub through : at_point a k c p ≡ pos 0
+  pub above : (v : V2) → IsIn b v → pos 0 <ℤ at_place a k c v
 
-aside : (b : Box2) (p : P2) → IsOutside b p → IsAside p b
+pub aside : (b : Box2) (p : P2) → IsOutside b p → IsAside p b
 aside b p (inl l) = record {
   a = p.w;
   k = pos 0;

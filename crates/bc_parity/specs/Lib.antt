@@ -9,3 +9,5 @@ pub mod Flips
 pub mod Laws
 pub mod OnEdge
 pub mod Between
+pub mod Faces
+pub mod FaceLaws

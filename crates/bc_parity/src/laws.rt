@@ -2,10 +2,11 @@
 //! promise is the law.
 ghost use Rattle.bc_solid.specs.Closed.{IsClosedArc};
 ghost use Rattle.bc_parity.specs.ChordLaw.{arc_of, ChordLaw};
+ghost use Rattle.bc_parity.specs.FaceLaws.{CellLaw3, OutsideLaw3, PlaneLaw};
 ghost use Rattle.bc_parity.specs.Laws.{AwayLaw, CellLaw, FlipLaw, OutsideLaw, StraightCellLaw};
 
 use bc_num::V2;
-use bc_solid::Profile;
+use bc_solid::{Profile, Solid};
 
 /// The chord law, of the arc from `a` to `b` round `c`: from a point on neither the circle nor the chord's line, the
 /// downward ray crosses the arc an odd number of times exactly where it crosses the chord, flipped where the point is in
@@ -49,6 +50,28 @@ pub fn away_law(s: &Profile)
 /// Outside the closed box of the elements the parity is even, also on the lines.
 pub fn outside_law2(s: &Profile)
     ensures { OutsideLaw s.now }
+{
+    s.law();
+}
+
+/// The plane law: over the line of an edge that is not vertical, a point on no plane of a face is strictly above all of
+/// these planes that go through the edge, or strictly below all of them, and none of them is vertical.
+pub fn plane_law(s: &Solid)
+    ensures { PlaneLaw s.now }
+{
+    s.law();
+}
+
+/// The cell law: two points on no plane of a face, and Above the same of these planes, have the same parity.
+pub fn cell_law3(s: &Solid)
+    ensures { CellLaw3 s.now }
+{
+    s.law();
+}
+
+/// Outside the closed box of the mesh the parity is even, also on the planes of faces.
+pub fn outside_law3(s: &Solid)
+    ensures { OutsideLaw3 s.now }
 {
     s.law();
 }

@@ -1,12 +1,12 @@
-ghost use Rattle.std.specs.Prelude.{◌≡◌, ◌≤◌, ◌^◌, true, length};
+ghost use Rattle.std.specs.Prelude.{◌≡◌, ◌≤◌, ◌^◌, ◌<ℤ◌, true, pos, [], ◌∷◌, length, IfOk};
 ghost use Rattle.std.specs.List.{list_all};
 ghost use Rattle.bc_algebra.specs.Within.{IsWithin};
 ghost use Rattle.bc_solid.specs.Closed.{IsContour};
 ghost use Rattle.bc_solid.specs.Contours.{is_drawn};
 
-use crate::{odd2, on_edge2, straight_odd2};
-use bc_num::{List, P2, V2};
-use bc_solid::{Element, Profile, RawContours, check_contours};
+use crate::{odd2, odd3, on_edge2, on_edge3, straight_odd2};
+use bc_num::{List, P2, P3, V2, V3};
+use bc_solid::{Element, Face, Profile, RawContours, RawMesh, Solid, check_contours, check_mesh};
 use std::alloc::Global;
 use std::test::Fail;
 
@@ -99,6 +99,98 @@ fn a_major_arc(rt: HostRuntime) -> Result<(), Fail> {
         assert!(rt; x.unsigned_abs() <= 10 && y.unsigned_abs() <= 10);
         assert_eq!(rt; word_at(&s, x, y), want, "at ({x}, {y})");
         assert!(rt; !straight_odd2(&s, &P2 { x, y, w: 1 }));
+    }
+    Ok(())
+}
+
+fn triangle(alloc: Global, a: u32, b: u32, c: u32) -> Result<Face, Fail>
+    ensures { IfOk result (λ f. f ≡ a ∷ (b ∷ (c ∷ []))) }
+{
+    let mut face = Face::new(alloc);
+    face.push(a)?;
+    face.push(b)?;
+    face.push(c)?;
+    Ok(face)
+}
+
+// A floor of three corners and a tip, which is over the floor's inside. The planes are z = 0, z = 4y, z = 4x and
+// 2x + 2y + z = 8.
+fn tetrahedron(alloc: Global) -> Result<Solid, Fail> {
+    let points = vec![in alloc;
+        V3 { x: 0, y: 0, z: 0 },
+        V3 { x: 4, y: 0, z: 0 },
+        V3 { x: 0, y: 4, z: 0 },
+        V3 { x: 1, y: 1, z: 4 },
+    ]?;
+    let faces = vec![in alloc;
+        triangle(alloc, 0, 2, 1)?,
+        triangle(alloc, 0, 1, 3)?,
+        triangle(alloc, 0, 3, 2)?,
+        triangle(alloc, 1, 2, 3)?,
+    ]?;
+    let raw = RawMesh {
+        points: List::from_vec(points),
+        faces: List::from_vec(faces),
+    };
+    Ok(check_mesh(alloc, raw)?)
+}
+
+fn word_over(s: &Solid, x: i64, y: i64, z: i64, w: i64) -> &'static str
+    requires { pos 0 <ℤ w }
+{
+    let p = P3 {
+        x: i128::from(x),
+        y: i128::from(y),
+        z: i128::from(z),
+        w: i128::from(w),
+    };
+    if on_edge3(s, &p) {
+        "edge"
+    } else if odd3(s, &p) {
+        "odd"
+    } else {
+        "even"
+    }
+}
+
+#[test]
+fn a_tetrahedron(rt: HostRuntime) -> Result<(), Fail> {
+    const FINE: i64 = 1_000_000_000_000_000_000;
+    let s = tetrahedron(rt.alloc())?;
+    for (x, y, z, w, want) in [
+        // in the column of the tip
+        (1i64, 1i64, -1i64, 1i64, "even"),
+        (1, 1, 0, 1, "edge"),
+        (1, 1, 1, 1, "odd"),
+        (1, 1, 5, 1, "even"),
+        // in the column of the middle of the edge from the first corner to the tip
+        (1, 1, -1, 2, "even"),
+        (1, 1, 1, 2, "odd"),
+        (1, 1, 4, 2, "edge"),
+        (1, 1, 6, 2, "even"),
+        // in the columns of edges of the floor
+        (2, 0, 1, 1, "even"),
+        (0, 2, -1, 1, "even"),
+        (2, 2, 5, 1, "even"),
+        // beside
+        (-1, 1, 1, 1, "even"),
+        (5, 5, 1, 1, "even"),
+        // on planes, beside the faces
+        (9, -9, 0, 1, "edge"),
+        (7, -1, -4, 1, "edge"),
+        (-1, 7, -4, 1, "edge"),
+        (4, 4, -8, 1, "edge"),
+        // near the tip
+        (FINE, FINE, 4 * FINE - 1, FINE, "odd"),
+        (FINE, FINE, 4 * FINE, FINE, "edge"),
+        (FINE, FINE, 4 * FINE + 1, FINE, "even"),
+    ] {
+        assert!(rt; w > 0);
+        assert_eq!(rt;
+            word_over(&s, x, y, z, w),
+            want,
+            "at ({x}, {y}, {z}) over {w}"
+        );
     }
     Ok(())
 }

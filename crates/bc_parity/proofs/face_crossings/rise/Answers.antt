@@ -1,0 +1,15 @@
+use Rattle.std.proofs.Common.{refl}
+use Rattle.bc_algebra.proofs.Sizes.{smalls, fits, plainly}
+use Rattle.bc_parity.proofs.face_crossings.rise.Goals as goal
+
+pub overflow_sub-result : goal.overflow_sub-result
+overflow_sub-result c = fits (search (smalls, c.requires) depth 30) refl
+
+pub overflow_sub-result-2 : goal.overflow_sub-result-2
+overflow_sub-result-2 c = fits (search (smalls, c.requires) depth 30) refl
+
+pub overflow_mul-result : goal.overflow_mul-result
+overflow_mul-result c = fits (search (smalls, c.requires) depth 30) refl
+
+pub returns : goal.returns
+returns c = plainly (search (smalls, c.requires) depth 30) refl
