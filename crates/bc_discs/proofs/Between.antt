@@ -22,7 +22,7 @@ use Rattle.bc_space.specs.Lines.{line_value, line_side}
 use Rattle.bc_space.specs.Flat.{cramer_x, cramer_y, determinant2, point_over2, met2, walls2}
 use Rattle.bc_space.specs.FlatMeets.{flat_meet}
 use Rattle.bc_space.specs.Regions.{IsInRegion, IsCorner}
-use Rattle.bc_cells.proofs.Choices.{part_all}
+use Rattle.bc_hull.proofs.Members.{part_all}
 use Rattle.bc_cells.proofs.Lists.{all_front, all_back}
 use Rattle.bc_cells.proofs.Masks.{mask_alike}
 use Rattle.bc_discs.specs.Rules.{is_above, toward, square_normal}
