@@ -23,7 +23,7 @@ use Rattle.bc_natural.specs.Curves.{IsLineOf, IsDiscOf, is_same_line, is_same_di
 
 -- ---- tests
 
-both : (x y : Bool) → x ≡ true → y ≡ true → (x && y) ≡ true
+pub both : (x y : Bool) → x ≡ true → y ≡ true → (x && y) ≡ true
 both x y h k = rw (h, k) refl
 
 pub same_place : (a b : V2) → is_same a b ≡ true → a ≡ b

@@ -1,8 +1,12 @@
 pub mod Added
 pub mod Canonical
+pub mod FaceCorners
 pub mod FirstSeen
 pub mod Gathering
 pub mod Lists
 pub mod Masks
+pub mod PlaneTables
+pub mod SamePlanes
 pub mod Spans
+pub mod Spans3
 pub mod Table

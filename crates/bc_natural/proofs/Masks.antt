@@ -62,6 +62,14 @@ module _ {P H : Type 0} (side : H → P → Side) where
       as_bit _ (bit_at (mask_of side hs p) i) (side h p ≡ Above) (high_bit (bit_of_side (side g p)) (mask_of side hs p) i (bit_below (side g p)))
       (bit_of_mask hs p i h e)
 
+  -- points with one mask are Above the same half-spaces
+  pub same_bits : (hs : List H) (p q : P) → mask_of side hs p ≡ mask_of side hs q → (i : ℕ) (h : H) → slice_get hs i ≡ Some h → (side h p ≡ Above) ↔ (side h q ≡ Above)
+  same_bits hs p q e i h k =
+      let a = bit_of_mask hs p i h k in
+      let b = bit_of_mask hs q i h k in
+      let s : bit_at (mask_of side hs p) i ≡ bit_at (mask_of side hs q) i = ap (λ m. bit_at m i) e in
+      (λ x. b.0 (sym s ∙ a.1 x), λ x. a.0 (s ∙ b.1 x))
+
 -- ---- the half-spaces of a table
 
 lines_below : (t : Curves) (p : P2) → mask_of line_side (lines_of t) p < 2 ^ length t.lines

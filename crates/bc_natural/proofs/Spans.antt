@@ -139,16 +139,16 @@ reach_near n m h least =
       | inr l ↦ l
     ]
 
--- ---- of elements
+-- ---- of elements, or whatever numbers come from
 
-module _ (R : Element → ℤ → Type 0) where
-  abbrev of_any : List Element → ℤ → Type 0
+module _ {E : Type 0} (R : E → ℤ → Type 0) where
+  abbrev of_any : List E → ℤ → Type 0
   of_any es v = Any (λ e. R e v) es
 
-  some : (es : List Element) (v : ℤ) (e : Element) → Contains es e → R e v → of_any es v
+  some : (es : List E) (v : ℤ) (e : E) → Contains es e → R e v → of_any es v
   some es v e m r = (m.0, e, m.1, m.2, r)
 
-  pub span_first : (es : List Element) (e : Element) (s : Span) → slice_get es 0 ≡ Some e → IsSpan (R e) s → IsSpan (λ v. Any (λ e. R e v) (take 1 es)) s
+  pub span_first : (es : List E) (e : E) (s : Span) → slice_get es 0 ≡ Some e → IsSpan (R e) s → IsSpan (λ v. Any (λ e. R e v) (take 1 es)) s
   span_first [] e s h k = cc
   span_first (d ∷ ds) e s h k = span_as (R e) (of_any (d ∷ [])) s (λ v r. (0, d, omega arith, refl, subst (λ c. R c v) (sym f) r)) back k
     where
@@ -159,7 +159,7 @@ module _ (R : Element → ℤ → Type 0) where
       back v (zero, x, l, g, r) = subst (λ c. R c v) (sym g ∙ f) r
       back v (suc n, x, l, g, r) = absurd (omega arith)
 
-  pub span_more : (es : List Element) (i : ℕ) (e : Element) (s t u : Span) → slice_get es i ≡ Some e → IsSpan (λ v. Any (λ e. R e v) (take i es)) s → IsSpan (R e) t → IsHull s t u
+  pub span_more : (es : List E) (i : ℕ) (e : E) (s t u : Span) → slice_get es i ≡ Some e → IsSpan (λ v. Any (λ e. R e v) (take i es)) s → IsSpan (R e) t → IsHull s t u
       → IsSpan (λ v. Any (λ e. R e v) (take (i + 1) es)) u
   span_more es i e s t u h k j l =
       subst (λ ds. IsSpan (of_any ds) u) (sym (front_more es i e h))
@@ -176,7 +176,7 @@ module _ (R : Element → ℤ → Type 0) where
             | inr q ↦ inr (subst (λ c. R c v) (sym q) r)
           ]
 
-  pub span_all : (es : List Element) (i : ℕ) (s : Span) → length es ≤ i → IsSpan (λ v. Any (λ e. R e v) (take i es)) s → IsSpan (λ v. Any (λ e. R e v) es) s
+  pub span_all : (es : List E) (i : ℕ) (s : Span) → length es ≤ i → IsSpan (λ v. Any (λ e. R e v) (take i es)) s → IsSpan (λ v. Any (λ e. R e v) es) s
   span_all es i s h k = subst (λ ds. IsSpan (of_any ds) s) (take_all i es h) k
 
 -- ---- the box

@@ -55,8 +55,8 @@ line_in_table es t h e m y =
 pub line_from_element : (es : List Element) (t : Curves) → AreCurves es t → (i : ℕ) (entry : Line2 × V2) → slice_get t.lines i ≡ Some entry → (e : Element) × Contains es e × (has_line e ≡ true) × IsLineOf e entry
 line_from_element es t h i entry k = table_from has_line IsLineOf same_entry es t.lines i entry (lines_part es t h) k
 
--- a line of the table, with its origin
-pub entry_at : (xs : List (Line2 × V2)) (i : ℕ) (l : Line2) → slice_get (map (λ g. g.0) xs) i ≡ Some l → (g : Line2 × V2) × (slice_get xs i ≡ Some g) × (g.0 ≡ l)
+-- a half-space of a table, with its origin
+pub entry_at : {H O : Type 0} (xs : List (H × O)) (i : ℕ) (l : H) → slice_get (map (λ g. g.0) xs) i ≡ Some l → (g : H × O) × (slice_get xs i ≡ Some g) × (g.0 ≡ l)
 entry_at [] i l h = cc
 entry_at (g ∷ gs) zero l h = (g, refl, cc)
 entry_at (g ∷ gs) (suc i) l h = entry_at gs i l h

@@ -3,3 +3,4 @@ pub mod Noted
 pub mod Spans
 pub mod Masks
 pub mod Limits
+pub mod Planes

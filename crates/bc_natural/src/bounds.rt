@@ -58,7 +58,7 @@ fn rim_of(c: &i64, reach: u32) -> Span
 }
 
 // The span of both.
-fn hull_of(s: Span, t: Span) -> Span
+pub(crate) fn hull_of(s: Span, t: Span) -> Span
     ensures { IsHull s t result }
 {
     Span {

@@ -7,7 +7,7 @@ use thiserror::Error;
 /// Why there is no table of an input's half-spaces.
 #[derive(Debug, Drop, PartialEq, Eq, Clone, Copy, Error)]
 pub enum NatFault {
-    /// There are `n` distinct planes, which is too many.
+    /// There are `n` distinct planes, which is more than 24.
     #[error("{n} planes are too many")]
     TooManyPlanes { n: u64 },
     /// There are `n` distinct lines, which is more than 24.

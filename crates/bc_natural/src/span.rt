@@ -10,3 +10,11 @@ pub(crate) struct Span {
     pub(crate) ghost high_near: { IsWithin 3917 high },
     pub(crate) ghost ordered: { low ≤ℤ high },
 }
+
+// The spans along the three axes of space.
+#[derive(Clone, Copy)]
+pub(crate) struct Extent3 {
+    pub(crate) x: Span,
+    pub(crate) y: Span,
+    pub(crate) z: Span,
+}

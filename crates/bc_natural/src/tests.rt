@@ -1,12 +1,13 @@
-ghost use Rattle.std.specs.Prelude.{◌≡◌, ◌≤◌, ◌<◌, ◌^◌, true, length, IfOk};
+ghost use Rattle.std.specs.Prelude.{◌≡◌, ◌≤◌, ◌<◌, ◌^◌, true, [], ◌∷◌, length, nat_lt, IfOk};
 ghost use Rattle.std.specs.List.{list_all};
 ghost use Rattle.bc_solid.specs.Closed.{IsContour};
 ghost use Rattle.bc_solid.specs.Contours.{is_drawn};
+ghost use Rattle.bc_solid.specs.Meshes.{corner_count};
 
-use crate::{NatFault, box2, curves};
-use bc_num::{Disc2, List, V2};
-use bc_solid::{Element, Profile, RawContours, check_contours};
-use bc_space::Line2;
+use crate::{NatFault, PlaneTable, box2, box3, curves, planes};
+use bc_num::{Disc2, List, V2, V3};
+use bc_solid::{Element, Face, Profile, RawContours, RawMesh, Solid, check_contours, check_mesh};
+use bc_space::{Line2, Plane3};
 use std::alloc::Global;
 use std::test::Fail;
 
@@ -175,5 +176,117 @@ fn discs_to_their_limit(rt: HostRuntime) -> Result<(), Fail> {
         assert_eq!(rt; found, want, "of {count} rings");
         assert_eq!(rt; corners(&s), around, "of {count} rings");
     }
+    Ok(())
+}
+
+#[test]
+fn planes_each_once(rt: HostRuntime) -> Result<(), Fail> {
+    let floor = Plane3 {
+        a: 0,
+        b: 0,
+        c: 1,
+        d: 0,
+    };
+    let shelf = Plane3 {
+        a: 0,
+        b: 0,
+        c: 1,
+        d: 5,
+    };
+    let wall = Plane3 {
+        a: 1,
+        b: 0,
+        c: 0,
+        d: 0,
+    };
+    let mut table = PlaneTable::new(rt.alloc());
+    assert_eq!(rt; table.len(), 0);
+    for (plane, origin, count) in [
+        (floor, V3 { x: 1, y: 2, z: 0 }, 1),
+        (shelf, V3 { x: 3, y: 4, z: 5 }, 2),
+        (floor, V3 { x: 6, y: 7, z: 0 }, 2),
+        (wall, V3 { x: 0, y: 8, z: 9 }, 3),
+        (shelf, V3 { x: 0, y: 0, z: 5 }, 3),
+    ] {
+        table.add_plane(plane, origin)?;
+        assert_eq!(rt; table.len(), count);
+    }
+    let list = table.plane_list(rt.alloc())?;
+    assert_eq!(rt; list.as_slice(), [floor, shelf, wall].as_slice());
+    assert_eq!(rt; table.len(), 3);
+    assert_eq!(rt; table.entry(0), (floor, V3 { x: 1, y: 2, z: 0 }));
+    assert_eq!(rt; table.plane(1), shelf);
+    assert_eq!(rt; table.origin(1), V3 { x: 3, y: 4, z: 5 });
+    assert_eq!(rt; table.entry(2), (wall, V3 { x: 0, y: 8, z: 9 }));
+    Ok(())
+}
+
+fn triangle(alloc: Global, a: u32, b: u32, c: u32) -> Result<Face, Fail>
+    ensures { IfOk result (λ f. f ≡ a ∷ (b ∷ (c ∷ []))) }
+{
+    let mut face = Face::new(alloc);
+    face.push(a)?;
+    face.push(b)?;
+    face.push(c)?;
+    Ok(face)
+}
+
+// The faces over the corners of a tetrahedron, of which the last three are on x + y + z = 2.
+fn over_tips(alloc: Global, faces: Vec<Face>) -> Result<Solid, Fail>
+    requires places { list_all (λ face. list_all (λ i. nat_lt i 4) face) faces.items ≡ true }
+    requires few_faces { length faces.items ≤ 2 ^ 20 }
+    requires few_corners { corner_count faces.items ≤ 2 ^ 20 }
+{
+    let points = vec![in alloc;
+        V3 { x: 0, y: 0, z: 0 },
+        V3 { x: 2, y: 0, z: 0 },
+        V3 { x: 0, y: 2, z: 0 },
+        V3 { x: 0, y: 0, z: 2 },
+    ]?;
+    let raw = RawMesh {
+        points: List::from_vec(points),
+        faces: List::from_vec(faces),
+    };
+    Ok(check_mesh(alloc, raw)?)
+}
+
+fn corners3(s: &Solid) -> ((i64, i64, i64), (i64, i64, i64)) {
+    let b = box3(s);
+    ((b.x0, b.y0, b.z0), (b.x1, b.y1, b.z1))
+}
+
+#[test]
+fn a_tetrahedron(rt: HostRuntime) -> Result<(), Fail> {
+    let alloc = rt.alloc();
+    let faces = vec![in alloc;
+        triangle(alloc, 2, 1, 0)?,
+        triangle(alloc, 0, 1, 3)?,
+        triangle(alloc, 3, 2, 0)?,
+        triangle(alloc, 1, 2, 3)?,
+    ]?;
+    let s = over_tips(alloc, faces)?;
+    assert_eq!(rt; corners3(&s), ((-1, -1, -1), (3, 3, 3)));
+    let table = planes(alloc, &s)?;
+    assert_eq!(rt; table.len(), 4);
+    for (i, numbers, origin) in [
+        (0usize, (0, 0, 1, 0), V3 { x: 0, y: 2, z: 0 }),
+        (1, (0, 1, 0, 0), V3 { x: 0, y: 0, z: 0 }),
+        (2, (1, 0, 0, 0), V3 { x: 0, y: 0, z: 2 }),
+        (3, (1, 1, 1, 2), V3 { x: 2, y: 0, z: 0 }),
+    ] {
+        assert!(rt; i < table.len());
+        let (h, first) = table.entry(i);
+        assert_eq!(rt; (h.a, h.b, h.c, h.d), numbers, "of plane {i}");
+        assert_eq!(rt; first, origin, "of plane {i}");
+    }
+    Ok(())
+}
+
+// The box is not that of the places, since none is a corner.
+#[test]
+fn no_faces(rt: HostRuntime) -> Result<(), Fail> {
+    let s = over_tips(rt.alloc(), Vec::new(rt.alloc()))?;
+    assert_eq!(rt; corners3(&s), ((-1, -1, -1), (1, 1, 1)));
+    assert_eq!(rt; planes(rt.alloc(), &s)?.len(), 0);
     Ok(())
 }
