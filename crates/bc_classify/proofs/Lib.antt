@@ -3,3 +3,4 @@ pub mod Halves
 pub mod Overlaps
 pub mod Parities
 pub mod Walks
+mod CellWalks

@@ -54,10 +54,10 @@ module _ {A B : Type 0} (f : A → B) (test : A → Bool) (xs : List A) (i : ℕ
   one_more : filter test (take (i + 1) xs) ≡ filter test (take i xs) ++ cond (test x) (x ∷ []) []
   one_more = filter_more test xs i x l ∙ ap (λ z. filter test (take i xs) ++ cond (test z) (z ∷ []) []) (sym at)
 
-  put : test x ≡ true → map f (filter test (take (i + 1) xs)) ≡ map f (filter test (take i xs)) ++ f x ∷ []
+  pub put : test x ≡ true → map f (filter test (take (i + 1) xs)) ≡ map f (filter test (take i xs)) ++ f x ∷ []
   put h = ap (map f) (one_more ∙ ap (λ b. filter test (take i xs) ++ cond b (x ∷ []) []) h) ∙ map_push f (filter test (take i xs)) x
 
-  left : test x ≡ false → map f (filter test (take (i + 1) xs)) ≡ map f (filter test (take i xs))
+  pub left : test x ≡ false → map f (filter test (take (i + 1) xs)) ≡ map f (filter test (take i xs))
   left h = ap (map f) (one_more ∙ ap (λ b. filter test (take i xs) ++ cond b (x ∷ []) []) h ∙ append-nil (filter test (take i xs)))
 
 module _ (es : List Element) (t : Curves) (regions : List Region) (all : List Candidate) (i : ℕ) (c : Candidate) (l : i < length all) (at : c ≡ get_or all i c) (old new : Split2) (h : IsSplit es t regions (take i all) old) where

@@ -1,3 +1,4 @@
 pub mod OddMasks
 pub mod RegionParities
 pub mod Splits
+pub mod CellSplits

@@ -1,16 +1,16 @@
-ghost use Rattle.std.specs.Prelude.{◌≡◌, ◌≤◌, ◌<◌, ◌^◌, true, length, OnOk, IfOk, All};
+ghost use Rattle.std.specs.Prelude.{◌≡◌, ◌≤◌, ◌<◌, ◌^◌, true, [], ◌∷◌, length, OnOk, IfOk, All};
 ghost use Rattle.std.specs.List.{list_all};
 ghost use Rattle.bc_solid.specs.Closed.{IsContour};
 ghost use Rattle.bc_solid.specs.Contours.{is_drawn};
 ghost use Rattle.bc_natural.specs.Limits.{AreFew};
 
-use crate::{Marked2, Split2, classify2};
+use crate::{Marked2, Split2, Split3, classify2, classify3};
 use bc_cells::{Cell, cells};
 use bc_discs::Candidate;
-use bc_natural::{CurveTable, curves};
-use bc_num::{Box2, List, Memory, V2};
-use bc_solid::{Element, Profile, RawContours, check_contours};
-use bc_space::Flat;
+use bc_natural::{CurveTable, box3, curves, planes};
+use bc_num::{Box2, List, Memory, V2, V3};
+use bc_solid::{Element, Face, Profile, RawContours, RawMesh, Solid, check_contours, check_mesh};
+use bc_space::{Flat, Solid3};
 use std::alloc::Global;
 use std::test::Fail;
 
@@ -152,5 +152,60 @@ fn a_circle_once_and_twice(rt: HostRuntime) -> Result<(), Fail> {
     let split = split_of(rt.alloc(), &profile_of(rt.alloc(), twice)?)?;
     assert!(rt; has_masks(&split.inside, &[]));
     assert!(rt; has_masks(&split.outside, &[0, 1]));
+    Ok(())
+}
+
+fn triangle(alloc: Global, a: u32, b: u32, c: u32) -> Result<Face, Fail>
+    ensures { IfOk result (λ f. f ≡ a ∷ (b ∷ (c ∷ []))) }
+{
+    let mut face = Face::new(alloc);
+    face.push(a)?;
+    face.push(b)?;
+    face.push(c)?;
+    Ok(face)
+}
+
+// The planes of the faces are z = 0, x + y + z = 2, y = 0 and x = 0, in this order.
+fn tetrahedron(alloc: Global) -> Result<Solid, Fail> {
+    let points = vec![in alloc;
+        V3 { x: 0, y: 0, z: 0 },
+        V3 { x: 2, y: 0, z: 0 },
+        V3 { x: 0, y: 2, z: 0 },
+        V3 { x: 0, y: 0, z: 2 },
+    ]?;
+    let faces = vec![in alloc;
+        triangle(alloc, 0, 2, 1)?,
+        triangle(alloc, 1, 2, 3)?,
+        triangle(alloc, 0, 1, 3)?,
+        triangle(alloc, 0, 3, 2)?,
+    ]?;
+    let raw = RawMesh {
+        points: List::from_vec(points),
+        faces: List::from_vec(faces),
+    };
+    Ok(check_mesh(alloc, raw)?)
+}
+
+fn split3_of(alloc: Global, s: &Solid) -> Result<Split3, Fail> {
+    let table = planes(alloc, s)?;
+    let halves = table.plane_list(alloc)?;
+    let all = cells::<Solid3>(alloc, &box3(s), halves.as_slice())?;
+    Ok(classify3(alloc, s, &all)?)
+}
+
+// Inside is Above all planes but the second. Only Above the second alone there is no cell.
+#[test]
+fn fifteen_cells_of_a_tetrahedron(rt: HostRuntime) -> Result<(), Fail> {
+    let split = split3_of(rt.alloc(), &tetrahedron(rt.alloc())?)?;
+    assert_eq!(rt; split.inside.len(), 1);
+    assert_eq!(rt; split.inside.get(0).mask, 0b1101);
+    assert_eq!(rt; split.outside.len(), 14);
+    for (i, mask) in [0u64, 1, 3, 4, 5, 6, 7, 8, 9, 10, 11, 12, 14, 15]
+        .iter()
+        .enumerate()
+    {
+        assert!(rt; i < split.outside.len());
+        assert_eq!(rt; split.outside.get(i).mask, *mask);
+    }
     Ok(())
 }
