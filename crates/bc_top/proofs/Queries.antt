@@ -1,16 +1,18 @@
 -- The numbers of a question as they are read, cut to 2^62 in size, and as they are written.
-use Rattle.std.proofs.Common.{◌≡◌, ◌<◌, ◌≤◌, ◌^◌, ℕ, zero, suc, ℤ, pos, negsuc, Bool, true, false, ◌||◌, min, nat_lt, refl, sym, ap, ◌∙◌, subst, arith, lit<}
+use Rattle.std.proofs.Common.{◌≡◌, ◌<◌, ◌≤◌, ◌^◌, ◌-◌, ℕ, zero, suc, ℤ, pos, negsuc, Bool, true, false, ◌||◌, min, nat_lt, refl, sym, ap, ◌∙◌, subst, arith, lit<}
 use lib.IntN.{nat_abs, neg_ℤ}
 use Rattle.std.proofs.lemmas.Bool.Decides.{nat_tests}
 use Rattle.bc_algebra.specs.Within.{IsWithin}
 use Rattle.bc_num.specs.declared.p2.P2.{P2}
-use Rattle.bc_num.specs.Sizes.{IsSmallPoint}
+use Rattle.bc_num.specs.declared.p3.P3.{P3}
+use Rattle.bc_num.specs.Sizes.{IsSmallPoint, IsLargePoint3}
 use Rattle.bc_top.specs.declared.command.Query.{Query as Asked}
 use Rattle.bc_top.specs.declared.status.Refusal.{Refusal}
-use Rattle.bc_top.specs.declared.status.Refusal.TheVariants.{PointTooFine, PointOffPlane, TooLong, G, Contour, Limit}
+use Rattle.bc_top.specs.declared.status.Refusal.TheVariants.{PointTooFine, PointOffPlane, TooLong, Off, G, Mesh, Contour, Limit}
 use Rattle.bc_top.specs.Commands.{Query, is_too_fine}
-use Rattle.bc_top.specs.Reading.{capped, capped_query, is_past, IsPointOf, Refuses}
-use Rattle.bc_top.specs.Answers.{IsAsked, IsPointRefusal}
+use Rattle.bc_top.specs.Reading.{capped, capped_query, is_past, IsPointOf, IsPointOf3, Refuses, Refuses3}
+use Rattle.bc_top.specs.Contours.{IsAsked, IsPointRefusal}
+use Rattle.bc_top.specs.Meshes.{IsAsked3, IsPointRefusal3}
 
 -- ---- tests
 
@@ -58,6 +60,7 @@ past_same q =
 pub record Fine (q : Query) : Type 0 where
   pub x : nat_abs q.x ≤ 2 ^ 60
   pub y : nat_abs q.y ≤ 2 ^ 60
+  pub z : nat_abs q.z ≤ 2 ^ 60
   pub w : q.w ≤ 2 ^ 40
 
 fine_is : (q : Query) → is_too_fine q ≡ false → Fine q
@@ -65,7 +68,7 @@ fine_is q h =
     let a = neither _ _ h in
     let b = neither _ _ a.1 in
     let d = neither _ _ b.1 in
-    record { x = not_less (2 ^ 60) (nat_abs q.x) a.0; y = not_less (2 ^ 60) (nat_abs q.y) b.0; w = not_less (2 ^ 40) q.w d.1 }
+    record { x = not_less (2 ^ 60) (nat_abs q.x) a.0; y = not_less (2 ^ 60) (nat_abs q.y) b.0; z = not_less (2 ^ 60) (nat_abs q.z) d.0; w = not_less (2 ^ 40) q.w d.1 }
 
 cut_count : (n : ℕ) → n ≤ 2 ^ 40 → min (2 ^ 62) n ≡ n
 cut_count n h = omega arith
@@ -87,9 +90,35 @@ pub point_refused : (q : Query) (f : Refusal) → Refuses (capped_query q) f →
 point_refused q PointTooFine h = sym (past_same q) ∙ h
 point_refused q PointOffPlane h = (sym (past_same q) ∙ h.0, λ e. h.1 (zero_cut q.z e))
 point_refused q TooLong h = absurd h
+point_refused q (Off f) h = absurd h
 point_refused q (G f) h = absurd h
+point_refused q (Mesh f) h = absurd h
 point_refused q (Contour f) h = absurd h
 point_refused q (Limit f) h = absurd h
+
+-- the same in space
+
+pub asked3 : (q : Query) (p : P3) → IsPointOf3 (capped_query q) p → IsAsked3 q p
+asked3 q p h =
+    let small : is_too_fine q ≡ false = sym (past_same q) ∙ h.fine in
+    let f : Fine q = fine_is q small in
+    record {
+      small = small;
+      x = h.x ∙ cut_same q.x f.x;
+      y = h.y ∙ cut_same q.y f.y;
+      z = h.z ∙ cut_same q.z f.z;
+      w = h.w ∙ ap pos (cut_count q.w f.w);
+    }
+
+pub point_refused3 : (q : Query) (f : Refusal) → Refuses3 (capped_query q) f → IsPointRefusal3 q f
+point_refused3 q PointTooFine h = sym (past_same q) ∙ h
+point_refused3 q PointOffPlane h = absurd h
+point_refused3 q TooLong h = absurd h
+point_refused3 q (Off f) h = absurd h
+point_refused3 q (G f) h = absurd h
+point_refused3 q (Mesh f) h = absurd h
+point_refused3 q (Contour f) h = absurd h
+point_refused3 q (Limit f) h = absurd h
 
 -- ---- the point of the numbers as they were read
 
@@ -102,4 +131,20 @@ small_point q p h ex ey ew =
       x_near = subst (IsWithin (2 ^ 60)) (sym ex) (record { within = not_less (2 ^ 60) (nat_abs q.x) a.0 });
       y_near = subst (IsWithin (2 ^ 60)) (sym ey) (record { within = not_less (2 ^ 60) (nat_abs q.y) b.0 });
       w_near = subst (IsWithin (2 ^ 40)) (sym ew) (record { within = not_less (2 ^ 40) (nat_abs q.w) d.1 });
+    }
+
+-- a small point is a large one
+far : (k m : ℕ) (z : ℤ) → k < m → nat_lt k (nat_abs z) ≡ false → IsWithin (m - 1) z
+far k m z h e = let n = not_less k (nat_abs z) e in record { within = omega (arith, n) }
+
+pub large_point : (q : Asked) (p : P3) → is_past q ≡ false → p.x ≡ q.x → p.y ≡ q.y → p.z ≡ q.z → p.w ≡ q.w → IsLargePoint3 p
+large_point q p h ex ey ez ew =
+    let a = neither _ _ h in
+    let b = neither _ _ a.1 in
+    let d = neither _ _ b.1 in
+    record {
+      x_near = subst (IsWithin (2 ^ 98 - 1)) (sym ex) (far (2 ^ 60) (2 ^ 98) q.x (lit< tt) a.0);
+      y_near = subst (IsWithin (2 ^ 98 - 1)) (sym ey) (far (2 ^ 60) (2 ^ 98) q.y (lit< tt) b.0);
+      z_near = subst (IsWithin (2 ^ 98 - 1)) (sym ez) (far (2 ^ 60) (2 ^ 98) q.z (lit< tt) d.0);
+      w_near = subst (IsWithin (2 ^ 86 - 1)) (sym ew) (far (2 ^ 40) (2 ^ 86) q.w (lit< tt) d.1);
     }

@@ -1,3 +1,6 @@
+pub mod Kinds
+pub mod Contours
+pub mod Meshes
 pub mod Headline
 pub mod Divisions
 pub mod Commands
