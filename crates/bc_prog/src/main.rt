@@ -4,14 +4,17 @@
 use bc_io::{StdSink, StdSource, put_all};
 use bc_top::{Status, run};
 use std::env;
+use std::io::ErrorKind;
 use std::process::ExitCode;
 
 // The words behind the program's name, or None for want of memory. A word that is no text counts for no words, which are
 // no command.
 fn words(rt: &HostRuntime) -> Option<Vec<String>> {
     let mut words = Vec::new(rt.alloc());
-    let Ok(args) = env::args(rt) else {
-        return Some(words);
+    let args = match env::args(rt) {
+        Ok(args) => args,
+        Err(error) if error.kind() == ErrorKind::OutOfMemory => return None,
+        Err(_) => return Some(words),
     };
     for word in args.skip(1) {
         words.push(word).ok()?;
