@@ -5,14 +5,11 @@ use Rattle.bc_lex.specs.Words.{PlainWord, next_plain, after_plain}
 use Rattle.bc_lex.specs.Left.{lines_left, plain_left}
 use Rattle.bc_off.specs.declared.fault.OffFault.TheVariants.{Short, NotOff}
 use Rattle.bc_off.specs.Rows.{Row}
-use Rattle.bc_off.specs.Left.{rows_left, end_left, row_then}
+use Rattle.bc_off.specs.Left.{end_left, row_then}
 use Rattle.bc_off.specs.Header.{is_off, counts, before_rows, behind_off, header}
 use Rattle.bc_off.proofs.WordSteps.{IsMore, none_left, some_left}
 
--- no line is left, so no row is, and the next line is the one behind the last
-pub no_rows_left : (p q : LinePlace) → rows_left p ≡ row_then None (rows_left q) → rows_left p ≡ []
-no_rows_left p q h = h
-
+-- no line is left: the next line is the one behind the last
 pub end_is : (p q : LinePlace) → lines_left q ≡ [] → end_left q ≡ end_left p → q.number + 1 ≡ end_left p
 end_is p q h e =
     let none : length (lines_left q) ≡ 0 = ap length h in

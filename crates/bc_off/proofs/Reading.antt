@@ -68,8 +68,3 @@ pub end_read : (c : Counts) (rows rows2 rows3 : List Row) (points : List V3) (fs
     → Ok tt ≡ no_rows rows3 → end_part c rows points fs ≡ Ok (record { points = points; faces = fs })
 end_read c rows rows2 rows3 points fs a b h =
     ap (λ r. r >>= λ none. Ok (record { points = points; faces = fs })) (sym (h ∙ ap no_rows (b ∙ ap (drop c.faces) a)))
-
-pub end_failed : (c : Counts) (rows rows2 rows3 : List Row) (points : List V3) (fs : List (List ℕ)) (f : OffFault) → rows2 ≡ drop c.vertices rows → rows3 ≡ drop c.faces rows2
-    → Err f ≡ no_rows rows3 → end_part c rows points fs ≡ Err f
-end_failed c rows rows2 rows3 points fs f a b h =
-    ap (λ r. r >>= λ none. Ok (record { points = points; faces = fs })) (sym (h ∙ ap no_rows (b ∙ ap (drop c.faces) a)))

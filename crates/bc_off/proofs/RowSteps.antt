@@ -15,9 +15,6 @@ next-left p o h = next_line_is_first p ∙ ap (λ q. line_then q (lines_left (af
 pub lines_none : (p : LinePlace) → None ≡ next_line p → lines_left p ≡ []
 lines_none p h = next-left p None h
 
-pub rows_none : (p : LinePlace) → None ≡ next_line p → rows_left p ≡ []
-rows_none p h = ap (rows_from (p.number + 1)) (lines_none p h)
-
 pub rows_line : (p : LinePlace) (l : ALine) → Some l ≡ next_line p → rows_left p ≡ row_before l.number (words_of l.text) (rows_left (after_line p))
 rows_line p l h =
     let m = line_moved p l (sym h) in

@@ -1,5 +1,5 @@
 -- Items that are read one after another: one more turn.
-use Rattle.std.proofs.Common.{◌≡◌, ◌<◌, ℕ, suc, ◌+◌, ◌-◌, List, [], ◌∷◌, ◌++◌, drop, Result, Ok, Err, refl, sym, ap, ◌∙◌, subst, arith, append_assoc, append-nil}
+use Rattle.std.proofs.Common.{◌≡◌, ◌<◌, ℕ, suc, ◌+◌, ◌-◌, List, [], ◌∷◌, ◌++◌, drop, Result, Ok, Err, refl, sym, ap, ◌∙◌, subst, arith, append_assoc}
 use Rattle.std.proofs.lemmas.List.{drop-drop}
 use Rattle.bc_off.specs.declared.fault.OffFault.{OffFault}
 use Rattle.bc_off.specs.declared.fault.OffFault.TheVariants.{Short, Memory}
@@ -70,9 +70,6 @@ each_went f e k i rows rest r xs x h is read =
     each_read f e k i rows rest r xs h is
     ∙ ap (λ a. a >>= λ x. joined xs (each f e (k - (i + 1)) rest >>= λ ys. Ok (x ∷ ys))) read
     ∙ joined_more xs x (each f e (k - (i + 1)) rest)
-
-pub each_done : {A : Type 0} (f : Row → Result A OffFault) (e k i : ℕ) (rows : List Row) (xs : List A) → i ≡ k → joined xs (each f e (k - i) rows) ≡ Ok xs
-each_done f e k i rows xs h = rw (none_more k i h) (ap Ok (append-nil xs))
 
 pub drop_more : {A : Type 0} (i : ℕ) (xs ys : List A) (x : A) (zs : List A) → ys ≡ drop i xs → ys ≡ x ∷ zs → zs ≡ drop (i + 1) xs
 drop_more i xs ys x zs h e = sym (ap (drop 1) e) ∙ ap (drop 1) h ∙ drop-drop 1 i xs
