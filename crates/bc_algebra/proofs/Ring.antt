@@ -2,6 +2,7 @@
 -- from given equations times factors. A false identity is refused where its `refl` is checked.
 use Rattle.std.proofs.Common.{◌≡◌, ℕ, zero, suc, Bool, true, false, ◌&&◌, ltb, List, [], ◌∷◌, arith, refl, sym, ap, ◌∙◌}
 use borrow.Author.Differences.{ints}
+use Rattle.std.proofs.lemmas.Bool.{and_parts}
 use Rattle.std.proofs.lemmas.Bool.Decides.{nat_tests}
 use lib.IntN.{ℤ, pos, negsuc, ◌+ℤ◌, ◌-ℤ◌, ◌*ℤ◌, neg_ℤ, zero-*ℤ, *ℤ-zero, +ℤ_invr}
 use Rattle.bc_algebra.proofs.Laws.{mul_add, add_mul, mul_assoc, mul_swap, neg_one}
@@ -178,16 +179,6 @@ val-normal xs (mul e f) =
     val-times xs (normal e) (normal f) ∙ ap (λ z. z *ℤ val xs (normal f)) (val-normal xs e) ∙ ap (λ z. eval xs e *ℤ z) (val-normal xs f)
 val-normal xs (neg e) = val-scale xs (negsuc 0) (normal e) ∙ neg_one (val xs (normal e)) ∙ ap neg_ℤ (val-normal xs e)
 
--- the first of two tests that both pass
-and_left : (a b : Bool) → (a && b) ≡ true → a ≡ true
-and_left true b e = refl
-and_left false b e = e
-
--- the second of two tests that both pass
-and_right : (a b : Bool) → (a && b) ≡ true → b ≡ true
-and_right true b e = e
-and_right false b e = cc
-
 -- a polynomial whose coefficients are all 0 is 0
 val-zero : (xs : List ℤ) (p : Poly) → is_zero p ≡ true → val xs p ≡ pos 0
 val-zero xs (constant (pos zero)) e = refl
@@ -195,7 +186,7 @@ val-zero xs (constant (pos (suc n))) e = cc
 val-zero xs (constant (negsuc n)) e = cc
 val-zero xs (horner i p q) e =
     let x = at xs i in
-    omega (arith, ints, val-zero xs p (and_left (is_zero p) (is_zero q) e), ap (λ z. x *ℤ z) (val-zero xs q (and_right (is_zero p) (is_zero q) e)) ∙ *ℤ-zero x)
+    omega (arith, ints, val-zero xs p (and_parts (is_zero p) (is_zero q) e).0, ap (λ z. x *ℤ z) (val-zero xs q (and_parts (is_zero p) (is_zero q) e).1) ∙ *ℤ-zero x)
 
 -- the test that decides an identity
 abbrev pub is_nil : Expr → Bool

@@ -1,6 +1,6 @@
 -- How far from 0 a term can be, and its value without the conversions to bits and back. A goal that a sum, a product or a cast
 -- does not overflow is answered by `fits`, a value by `plainly` or `tidy`, a bound by `within`, each over `search smalls`.
-use Rattle.std.proofs.Common.{◌≡◌, ℕ, suc, ◌+◌, ◌-◌, ◌*◌, ◌^◌, ◌<◌, ◌≤◌, max, T, Bool, ltb, leb, true, false, ◌&&◌, ◌⊎◌, inl, inr, arith, refl, sym, ap, ◌∙◌, subst}
+use Rattle.std.proofs.Common.{◌≡◌, ℕ, suc, ◌+◌, ◌*◌, ◌^◌, ◌<◌, ◌≤◌, max, T, Bool, ltb, leb, true, false, ◌&&◌, ◌⊎◌, inl, inr, arith, refl, sym, ap, ◌∙◌, subst}
 use Rattle.std.proofs.lemmas.Int.{to_z-of_z}
 use Rattle.std.proofs.lemmas.Nat.{mul-le}
 use Rattle.bc_algebra.specs.Within.{IsWithin}
@@ -152,18 +152,6 @@ down_within n z p = let o = one_side z in omega (arith, ints)
 -- the facts of a number that is known to be within n
 abbrev pub small_within : (n : ℕ) (z : ℤ) → IsWithin n z → Small z
 small_within n z p = record { plain = z; low = n; high = n; ok = true; above = down_within n z p.within; below = up_within n z p.within; is = λ t. refl }
-
--- how far below 0 a value of a signed type can be
-pub down_range : (w : Width) (z : ℤ) → SFits w z → down z ≤ 2 ^ hbits w
-down_range w z f = let o = one_side z in omega (arith, ints)
-
--- how far above 0 a value of a signed type can be
-pub up_range : (w : Width) (z : ℤ) → SFits w z → up z ≤ 2 ^ hbits w - 1
-up_range w z f = let o = one_side z in omega (arith, ints)
-
--- by the range of a parameter's type, as `let x : Small c.args.x = small_range _ _ c.ranges.x in ..`
-abbrev pub small_range : (w : Width) (z : ℤ) → SFits w z → Small z
-small_range w z f = record { plain = z; low = 2 ^ hbits w; high = 2 ^ hbits w - 1; ok = true; above = down_range w z f; below = up_range w z f; is = λ t. refl }
 
 -- how far below 0 a number between two bounds can be, the lower one below 0
 pub down_between : (z : ℤ) (l h : ℕ) → negsuc l ≤ℤ z → z ≤ℤ pos h → down z ≤ suc l

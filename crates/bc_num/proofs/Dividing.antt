@@ -197,13 +197,16 @@ divided_is a g u v h d = rw (quot_is w128 a g u v (quot_fits w128 a g u h)) (exa
 larger : (m n : ℕ) → 0 < n → m ≤ m * n
 larger m n h = grind arith
 
--- an exact quotient is no larger in size
-pub quotient_no_larger : (q g a : ℤ) → pos 0 <ℤ g → q *ℤ g ≡ a → nat_abs q ≤ nat_abs a
-quotient_no_larger q g a h e =
+-- no number is larger in size than a multiple of it by a number that is not 0
+pub factor_no_larger : (q g a : ℤ) → 0 < nat_abs g → q *ℤ g ≡ a → nat_abs q ≤ nat_abs a
+factor_no_larger q g a above e =
     let s : nat_abs q * nat_abs g ≡ nat_abs a = sym (unsigned_abs-mul q g) ∙ ap nat_abs e in
-    let above : 0 < nat_abs g = omega (arith, ints) in
     let m : nat_abs q ≤ nat_abs q * nat_abs g = larger (nat_abs q) (nat_abs g) above in
     omega arith
+
+-- an exact quotient is no larger in size
+pub quotient_no_larger : (q g a : ℤ) → pos 0 <ℤ g → q *ℤ g ≡ a → nat_abs q ≤ nat_abs a
+quotient_no_larger q g a h e = factor_no_larger q g a (omega (arith, ints)) e
 
 -- so it is within each bound of the number
 pub quotient_within : (n : ℕ) (q g a : ℤ) → pos 0 <ℤ g → q *ℤ g ≡ a → IsWithin n a → IsWithin n q

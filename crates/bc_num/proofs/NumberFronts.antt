@@ -1,9 +1,10 @@
 -- A number at the front of some bytes is a number, and no longer front is one.
 use Rattle.std.proofs.Common.{◌≡◌, ◌<◌, ◌≤◌, ◌⊎◌, inl, inr, ℕ, zero, suc, ◌+◌, ◌-◌, min, Bool, true, false, ◌&&◌, nat_lt, nat_eq, List, [], ◌∷◌, ◌++◌, length, take, drop, refl, sym, ap, ◌∙◌, arith, add-one, length-take, append-nil, if◌then◌else◌}
 use Rattle.std.proofs.Math.Seq.{take-add}
+use Rattle.std.proofs.lemmas.Bool.{and_parts}
 use Rattle.std.proofs.lemmas.List.{drop-take, length-drop}
 use Rattle.bc_num.specs.Tokens.{is_digit}
-use Rattle.bc_num.specs.Numbers.{is_sign, is_point, digits, unsigned, ends_number, is_number, more, unsigned_length, with_sign, number_length}
+use Rattle.bc_num.specs.Numbers.{is_sign, is_point, digits, unsigned, ends_number, is_number, more, unsigned_length, signed_length, number_length}
 use Rattle.bc_num.specs.Fronts.{FrontIsNumber, FrontIsLongest}
 
 -- no digit comes first
@@ -93,14 +94,6 @@ fraction-ends n b cs p h =
     let some : nat_lt 0 (n + length (take (digits cs) cs)) ≡ true = ap (λ m. nat_lt 0 (n + m)) (fraction-length cs) ∙ h in
     rw (p, same, some) refl
 
-left-of : (a b : Bool) → (a && b) ≡ true → a ≡ true
-left-of true b h = refl
-left-of false b h = h
-
-right-of : (a b : Bool) → (a && b) ≡ true → b ≡ true
-right-of true b h = h
-right-of false b h = cc
-
 whole-ends : (bs w : List ℕ) → w ≡ front bs [] → 0 < digits bs → ends w ≡ true
 whole-ends bs w e h = ends-front bs [] w e refl ∙ lt-true 0 (digits bs) h
 
@@ -108,11 +101,11 @@ rest-ends : (bs : List ℕ) (b : ℕ) (cs w : List ℕ) (t : Bool) → (is_point
     → w ≡ take (digits bs) bs ++ take (if t then digits cs + 1 else 0) (b ∷ cs) → 0 < digits bs + (if t then digits cs + 1 else 0) → ends w ≡ true
 rest-ends bs b cs w false q e h = whole-ends bs w e (omega arith)
 rest-ends bs b cs w true q e h =
-    let p : is_point b ≡ true = left-of (is_point b) _ q in
+    let p : is_point b ≡ true = (and_parts (is_point b) _ q).0 in
     let s : stops (b ∷ take (digits cs) cs) ≡ true = rw (point-stops b p) refl in
     let more : take (digits cs + 1) (b ∷ cs) ≡ b ∷ take (digits cs) cs = rw add-one refl in
     ends-front bs (b ∷ take (digits cs) cs) w (e ∙ ap (λ xs. take (digits bs) bs ++ xs) more) s
-    ∙ fraction-ends (digits bs) b cs p (right-of (is_point b) _ q)
+    ∙ fraction-ends (digits bs) b cs p ((and_parts (is_point b) _ q).1)
 
 by-rest : (bs r w : List ℕ) → w ≡ take (digits bs) bs ++ take (more (digits bs) r) r → 0 < digits bs + more (digits bs) r → ends w ≡ true
 by-rest bs [] w e h = whole-ends bs w e (omega arith)
@@ -125,7 +118,7 @@ unsigned-ends bs h =
     by-rest bs r (take (n + more n r) bs) (take-add n (more n r) bs) h
 
 number-at : (b : ℕ) (bs : List ℕ) (s : Bool) (n m : ℕ) → is_sign b ≡ s → n ≡ unsigned_length bs → m ≡ unsigned_length (b ∷ bs)
-    → 0 < (if s then with_sign n else m) → is_number (take (if s then with_sign n else m) (b ∷ bs)) ≡ true
+    → 0 < (if s then signed_length n else m) → is_number (take (if s then signed_length n else m) (b ∷ bs)) ≡ true
 number-at b bs true zero m e n1 m1 h = absurd (omega arith)
 number-at b bs true (suc k) m e n1 m1 h =
     let w : unsigned (take (suc k + 1) (b ∷ bs)) ≡ take (unsigned_length bs) bs = rw (add-one (suc k)) (rw e (ap (λ n. take n bs) n1)) in
@@ -161,12 +154,12 @@ unsigned-le bs =
     let l : length (drop (digits bs) bs) ≡ length bs - digits bs = length-drop (digits bs) bs in
     omega arith
 
-sign-le : (n m : ℕ) → n ≤ m → with_sign n ≤ m + 1
+sign-le : (n m : ℕ) → n ≤ m → signed_length n ≤ m + 1
 sign-le zero m h = omega arith
 sign-le (suc n) m h = omega arith
 
-number-le-at : (b : ℕ) (bs : List ℕ) (s : Bool) → (if s then with_sign (unsigned_length bs) else unsigned_length (b ∷ bs)) ≤ length (b ∷ bs)
-number-le-at b bs true = let h : with_sign (unsigned_length bs) ≤ length bs + 1 = sign-le (unsigned_length bs) (length bs) (unsigned-le bs) in omega arith
+number-le-at : (b : ℕ) (bs : List ℕ) (s : Bool) → (if s then signed_length (unsigned_length bs) else unsigned_length (b ∷ bs)) ≤ length (b ∷ bs)
+number-le-at b bs true = let h : signed_length (unsigned_length bs) ≤ length bs + 1 = sign-le (unsigned_length bs) (length bs) (unsigned-le bs) in omega arith
 number-le-at b bs false = unsigned-le (b ∷ bs)
 
 pub number_length-le : (bs : List ℕ) → number_length bs ≤ length bs
@@ -198,11 +191,11 @@ more-at n m false e h = cc
 -- a point and k more bytes that end a number go on no further than the number does
 tail-more : (d k : ℕ) (b : ℕ) (cs : List ℕ) → k ≤ length cs → ends_number d (b ∷ take k cs) ≡ true → k + 1 ≤ more d (b ∷ cs)
 tail-more d k b cs h e =
-    let rest = right-of (is_point b) _ e in
-    let p : is_point b ≡ true = left-of (is_point b) _ e in
+    let rest = (and_parts (is_point b) _ e).1 in
+    let p : is_point b ≡ true = (and_parts (is_point b) _ e).0 in
     let l : length (take k cs) ≡ min k (length cs) = length-take k cs in
-    let same : digits (take k cs) ≡ length (take k cs) = eq-is _ _ (left-of (nat_eq (digits (take k cs)) (length (take k cs))) _ rest) in
-    let some : 0 < d + length (take k cs) = lt-is _ _ (right-of (nat_eq (digits (take k cs)) (length (take k cs))) _ rest) in
+    let same : digits (take k cs) ≡ length (take k cs) = eq-is _ _ ((and_parts (nat_eq (digits (take k cs)) (length (take k cs))) _ rest).0) in
+    let some : 0 < d + length (take k cs) = lt-is _ _ ((and_parts (nat_eq (digits (take k cs)) (length (take k cs))) _ rest).1) in
     let cut : digits (take k cs) ≡ min k (digits cs) = digits-take k cs in
     let within : k ≤ digits cs = omega arith in
     let any : 0 < d + digits cs = omega arith in
@@ -237,7 +230,7 @@ ends-longest bs m h e =
           omega arith
     ]
 
-sign-longest : (n u : ℕ) → n ≤ u → 0 < u → n + 1 ≤ with_sign u
+sign-longest : (n u : ℕ) → n ≤ u → 0 < u → n + 1 ≤ signed_length u
 sign-longest n zero h s = absurd (omega arith)
 sign-longest n (suc u) h s = omega arith
 
@@ -245,7 +238,7 @@ ends-some : (w : List ℕ) (m : ℕ) → m ≡ 0 → ends (take m w) ≡ true �
 ends-some w m z e = let h : ends (take 0 w) ≡ true = ap (λ m. ends (take m w)) (sym z) ∙ e in cc
 
 longest-at : (b : ℕ) (bs : List ℕ) (m : ℕ) (s : Bool) → is_sign b ≡ s → m ≤ length bs → is_number (b ∷ take m bs) ≡ true
-    → m + 1 ≤ (if s then with_sign (unsigned_length bs) else unsigned_length (b ∷ bs))
+    → m + 1 ≤ (if s then signed_length (unsigned_length bs) else unsigned_length (b ∷ bs))
 longest-at b bs m true e h k =
     let w : ends (take m bs) ≡ true = let u : unsigned (b ∷ take m bs) ≡ take m bs = rw e refl in ap ends (sym u) ∙ k in
     let got : m ≤ unsigned_length bs = ends-longest bs m h w in

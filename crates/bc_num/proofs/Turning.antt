@@ -1,22 +1,14 @@
 -- The primitive vector of a vector, from the vector over its greatest common divisor.
-use Rattle.std.proofs.Common.{◌≡◌, ◌≢◌, zero, suc, ◌⊎◌, inl, inr, ◌≤◌, [], ◌∷◌, arith, refl, sym, ap, ◌∙◌, subst}
+use Rattle.std.proofs.Common.{◌≡◌, ◌≢◌, zero, suc, ◌⊎◌, inl, inr, ℕ, ◌<◌, [], ◌∷◌, arith, refl, sym, ap, ◌∙◌, subst}
 use Rattle.std.proofs.lemmas.Int.{ints}
 use lib.IntN.{ℤ, pos, negsuc, ◌*ℤ◌, neg_ℤ, nat_abs, *ℤ_comm, *ℤ-zero}
 use lib.Signed.{◌<ℤ◌}
 use Rattle.bc_algebra.proofs.Ring.{ring, quotes, by_one}
+use Rattle.bc_algebra.specs.Within.{IsWithin}
 use Rattle.bc_num.specs.declared.v2.V2.{V2}
 use Rattle.bc_num.specs.Divides.{IsGcdOf}
 use Rattle.bc_num.specs.Directions.{IsZero2, IsPrimitive2, IsLeading2, IsOverGcd2, IsPrimitiveOf2, opposite2}
-use Rattle.bc_num.proofs.Dividing.{Divides_of-neg, coprime2, quotient_no_larger, zero_of-Divides}
-
--- a number above 0 is its size
-pub size_pos : (g : ℤ) → pos 0 <ℤ g → g ≡ pos (nat_abs g)
-size_pos (pos n) h = refl
-size_pos (negsuc n) h = absurd (omega (arith, ints))
-
--- a negation has the size of the number
-pub size-neg : (g : ℤ) → nat_abs (neg_ℤ g) ≡ nat_abs g
-size-neg g = omega (arith, ints)
+use Rattle.bc_num.proofs.Dividing.{Divides_of-neg, coprime2, factor_no_larger, zero_of-Divides}
 
 -- what is above 0 is not 0
 pub not_zero : (g : ℤ) → pos 0 <ℤ g → g ≢ pos 0
@@ -42,10 +34,6 @@ IsPrimitive2-opposite u h = record {
 pub signs-cancel : (v g x : ℤ) → v ≡ g *ℤ x → v ≡ neg_ℤ g *ℤ neg_ℤ x
 signs-cancel v g x e = by_one (pos 1) e (ring (v ∷ g ∷ x ∷ []) (search quotes depth 30) refl)
 
--- an exact quotient is no larger
-pub no_larger : (v g x : ℤ) → pos 0 <ℤ g → v ≡ g *ℤ x → nat_abs x ≤ nat_abs v
-no_larger v g x h e = quotient_no_larger x g v h (*ℤ_comm x g ∙ sym e)
-
 -- the vector over its greatest common divisor is the primitive one, where its first component that is not 0 is above 0
 same : (v u : V2) → IsOverGcd2 v u → IsLeading2 u → IsPrimitiveOf2 v u
 same v u h l = record {
@@ -53,11 +41,8 @@ same v u h l = record {
   leading = l;
   times = h.divisor;
   some = not_zero h.divisor h.positive;
-  greatest = subst (IsGcdOf v.x v.y) (size_pos h.divisor h.positive) h.greatest;
   along_x = h.along_x;
   along_y = h.along_y;
-  near_x = no_larger v.x h.divisor u.x h.positive h.along_x;
-  near_y = no_larger v.y h.divisor u.y h.positive h.along_y;
 }
 
 -- and its opposite is, where that holds of the opposite
@@ -67,11 +52,8 @@ turned v u h l = record {
   leading = l;
   times = neg_ℤ h.divisor;
   some = not_zero-neg h.divisor h.positive;
-  greatest = subst (IsGcdOf v.x v.y) (size_pos h.divisor h.positive ∙ ap pos (sym (size-neg h.divisor))) h.greatest;
   along_x = signs-cancel v.x h.divisor u.x h.along_x;
   along_y = signs-cancel v.y h.divisor u.y h.along_y;
-  near_x = rw (size-neg u.x) (no_larger v.x h.divisor u.x h.positive h.along_x);
-  near_y = rw (size-neg u.y) (no_larger v.y h.divisor u.y h.positive h.along_y);
 }
 
 -- the one of the two whose first component that is not 0 is above 0 is the primitive vector
@@ -90,3 +72,11 @@ divisor_pos v (negsuc k) h n = absurd (let s = h.sign in omega (arith, ints))
 pub left_over : (v u : V2) → IsOverGcd2 v u → ¬ IsZero2 v → ¬ IsZero2 u
 left_over v u h n z =
     n (record { along_x = h.along_x ∙ ap (λ x. h.divisor *ℤ x) z.along_x ∙ *ℤ-zero h.divisor; along_y = h.along_y ∙ ap (λ y. h.divisor *ℤ y) z.along_y ∙ *ℤ-zero h.divisor })
+
+-- a component of a primitive vector is within each bound of that component of a vector along it
+pub primitive_within : (n : ℕ) (v t x : ℤ) → t ≢ pos 0 → v ≡ t *ℤ x → IsWithin n v → IsWithin n x
+primitive_within n v t x some e near =
+    let size : 0 < nat_abs t = omega (arith, ints) in
+    let least = factor_no_larger x t v size (*ℤ_comm x t ∙ sym e) in
+    let most = near.within in
+    record { within = omega arith }

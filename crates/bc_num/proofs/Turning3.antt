@@ -6,7 +6,7 @@ use lib.Signed.{◌<ℤ◌}
 use Rattle.bc_num.specs.declared.v3.V3.{V3}
 use Rattle.bc_num.specs.Divides.{IsGcdOf3}
 use Rattle.bc_num.specs.Directions3.{IsZero3, IsPrimitive3, IsLeading3, IsOverGcd3, IsPrimitiveOf3, opposite3}
-use Rattle.bc_num.proofs.Turning.{size_pos, size-neg, not_zero, not_zero-neg, signs-cancel, no_larger}
+use Rattle.bc_num.proofs.Turning.{not_zero, not_zero-neg, signs-cancel}
 use Rattle.bc_num.proofs.Dividing.{Divides_of-neg, coprime3, zero_of-Divides}
 
 -- over its greatest common divisor a vector is primitive
@@ -28,13 +28,9 @@ same v u h l = record {
   leading = l;
   times = h.divisor;
   some = not_zero h.divisor h.positive;
-  greatest = subst (IsGcdOf3 v.x v.y v.z) (size_pos h.divisor h.positive) h.greatest;
   along_x = h.along_x;
   along_y = h.along_y;
   along_z = h.along_z;
-  near_x = no_larger v.x h.divisor u.x h.positive h.along_x;
-  near_y = no_larger v.y h.divisor u.y h.positive h.along_y;
-  near_z = no_larger v.z h.divisor u.z h.positive h.along_z;
 }
 
 -- and its opposite is, where that holds of the opposite
@@ -44,13 +40,9 @@ turned v u h l = record {
   leading = l;
   times = neg_ℤ h.divisor;
   some = not_zero-neg h.divisor h.positive;
-  greatest = subst (IsGcdOf3 v.x v.y v.z) (size_pos h.divisor h.positive ∙ ap pos (sym (size-neg h.divisor))) h.greatest;
   along_x = signs-cancel v.x h.divisor u.x h.along_x;
   along_y = signs-cancel v.y h.divisor u.y h.along_y;
   along_z = signs-cancel v.z h.divisor u.z h.along_z;
-  near_x = rw (size-neg u.x) (no_larger v.x h.divisor u.x h.positive h.along_x);
-  near_y = rw (size-neg u.y) (no_larger v.y h.divisor u.y h.positive h.along_y);
-  near_z = rw (size-neg u.z) (no_larger v.z h.divisor u.z h.positive h.along_z);
 }
 
 -- the one of the two whose first component that is not 0 is above 0 is the primitive vector

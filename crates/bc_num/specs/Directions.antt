@@ -1,5 +1,5 @@
 -- Primitive vectors of the plane: the one that stands for each direction and its opposite.
-use Rattle.std.specs.Prelude.{◌≡◌, ◌≢◌, ◌≤◌, ◌⊎◌, ℕ, ℤ, pos, ◌*ℤ◌, neg_ℤ, ◌<ℤ◌, unsigned_abs}
+use Rattle.std.specs.Prelude.{◌≡◌, ◌≢◌, ◌⊎◌, ℕ, ℤ, pos, ◌*ℤ◌, neg_ℤ, ◌<ℤ◌}
 use Rattle.bc_num.specs.declared.v2.V2.{V2}
 use Rattle.bc_num.specs.Divides.{Divides, IsGcdOf}
 
@@ -28,15 +28,12 @@ pub record IsOverGcd2 (v u : V2) : Type 0 where
   pub along_x : v.x ≡ divisor *ℤ u.x
   pub along_y : v.y ≡ divisor *ℤ u.y
 
--- u is the primitive vector of v: v is a multiple of it by a whole number whose size is the greatest common divisor of the
--- components of v, and its first component that is not 0 is above 0. No component is larger than that of v
+-- u is the primitive vector of v: it is primitive, its first component that is not 0 is above 0, and v is a multiple of it
+-- by a whole number that is not 0
 pub record IsPrimitiveOf2 (v u : V2) : Type 0 where
   pub primitive : IsPrimitive2 u
   pub leading : IsLeading2 u
   pub times : ℤ
   pub some : times ≢ pos 0
-  pub greatest : IsGcdOf v.x v.y (pos (unsigned_abs times))
   pub along_x : v.x ≡ times *ℤ u.x
   pub along_y : v.y ≡ times *ℤ u.y
-  pub near_x : unsigned_abs u.x ≤ unsigned_abs v.x
-  pub near_y : unsigned_abs u.y ≤ unsigned_abs v.y

@@ -59,10 +59,10 @@ abbrev pub unsigned_length : List ℕ → ℕ
 unsigned_length bs = digits bs + more (digits bs) (drop (digits bs) bs)
 
 -- one more byte, before a number of n bytes
-abbrev pub with_sign : ℕ → ℕ
-with_sign zero = 0
-with_sign (suc n) = suc n + 1
+abbrev pub signed_length : ℕ → ℕ
+signed_length zero = 0
+signed_length (suc n) = suc n + 1
 
 abbrev pub number_length : List ℕ → ℕ
 number_length [] = 0
-number_length (b ∷ bs) = if is_sign b then with_sign (unsigned_length bs) else unsigned_length (b ∷ bs)
+number_length (b ∷ bs) = if is_sign b then signed_length (unsigned_length bs) else unsigned_length (b ∷ bs)

@@ -69,16 +69,18 @@ abbrev pub cons : List ℕ → Option (List (List ℕ)) → Option (List (List �
 cons t None = None
 cons t (Some ts) = Some (t ∷ ts)
 
-abbrev pub add : Piece → ℕ → Option (List (List ℕ)) → Option (List (List ℕ))
-add bad b more = None
-add (free bs) b more = more
-add (item bs) b more = cons (b ∷ bs) more
+-- the tokens of a text whose first byte is b: what begins there, and the tokens behind it
+abbrev pub put_piece : Piece → ℕ → Option (List (List ℕ)) → Option (List (List ℕ))
+put_piece bad b more = None
+put_piece (free bs) b more = more
+put_piece (item bs) b more = cons (b ∷ bs) more
 
--- the tokens of a text, of which the first list is a front that belongs to what came before
+-- the tokens of a text, of which the first list is a front that belongs to what came before. That front is taken off byte
+-- by byte, so that each step goes on with the rest of the list, which is what a definition by recursion must do
 abbrev pub tokens_behind : List ℕ → List ℕ → Option (List (List ℕ))
 tokens_behind taken [] = Some []
 tokens_behind (x ∷ taken) (b ∷ bs) = tokens_behind taken bs
-tokens_behind [] (b ∷ bs) = add (piece b bs) b (tokens_behind (behind (piece b bs)) bs)
+tokens_behind [] (b ∷ bs) = put_piece (piece b bs) b (tokens_behind (behind (piece b bs)) bs)
 
 -- the tokens of a text, each the longest that stands at its place; none where a byte begins no token
 abbrev pub tokens_of : List ℕ → Option (List (List ℕ))

@@ -5,9 +5,9 @@ use Rattle.std.specs.Prelude.{ℕ, zero, suc, ◌+◌, ◌-◌, Bool, true, fals
 use Rattle.bc_num.specs.Tokens.{is_letter}
 use Rattle.bc_num.specs.Numbers.{number_length}
 
--- space, tab and CR
-abbrev pub is_blank : ℕ → Bool
-is_blank b = nat_eq b 32 || (nat_eq b 9 || nat_eq b 13)
+-- space, tab and CR: a blank within a line
+abbrev pub is_line_blank : ℕ → Bool
+is_line_blank b = nat_eq b 32 || (nat_eq b 9 || nat_eq b 13)
 
 -- a letter as a capital
 abbrev pub capital : ℕ → ℕ
@@ -39,7 +39,7 @@ pub data Words : Type 0 where
 -- how many blanks stand at the front
 abbrev pub blanks : List ℕ → ℕ
 blanks [] = 0
-blanks (b ∷ bs) = if is_blank b then blanks bs + 1 else 0
+blanks (b ∷ bs) = if is_line_blank b then blanks bs + 1 else 0
 
 -- how long the number behind a letter is, and 0 where none comes
 abbrev pub length_behind : List ℕ → ℕ
@@ -53,12 +53,13 @@ abbrev pub begins_word : ℕ → List ℕ → Bool
 begins_word b bs = is_letter b && nat_lt 0 (length_behind bs)
 
 abbrev mutual
-  -- the words of a line's bytes behind the first k, which belong to the word before
+  -- the words of a line's bytes behind the first k, which belong to the word before. The count goes down byte by byte, so
+  -- that each step goes on with the rest of the list, which is what a definition by recursion must do
   pub words : ℕ → List ℕ → Words
   words k [] = ended
   words (suc k) (b ∷ bs) = words k bs
   words zero (b ∷ bs) =
-      if is_blank b then words 0 bs
+      if is_line_blank b then words 0 bs
       else (if is_open b then words_behind_comment bs
       else (if is_stop b then ended
       else (if begins_word b bs then word (record { letter = capital b; number = number_behind bs }) (words (blanks bs + length_behind bs) bs)
@@ -73,7 +74,7 @@ abbrev mutual
   -- blanks and whole comments, and nothing else
   pub is_gap : List ℕ → Bool
   is_gap [] = true
-  is_gap (b ∷ bs) = if is_blank b then is_gap bs else is_open b && closes_comment bs
+  is_gap (b ∷ bs) = if is_line_blank b then is_gap bs else is_open b && closes_comment bs
 
   -- what stands behind the `(` of a comment: its bytes, its `)` and a gap
   pub closes_comment : List ℕ → Bool
@@ -83,12 +84,12 @@ abbrev mutual
 -- blanks and nothing else
 abbrev pub are_blanks : List ℕ → Bool
 are_blanks [] = true
-are_blanks (b ∷ bs) = is_blank b && are_blanks bs
+are_blanks (b ∷ bs) = is_line_blank b && are_blanks bs
 
 -- the first byte that is no blank is `%`
 abbrev pub is_ignored : List ℕ → Bool
 is_ignored [] = false
-is_ignored (b ∷ bs) = if is_blank b then is_ignored bs else nat_eq b 37
+is_ignored (b ∷ bs) = if is_line_blank b then is_ignored bs else nat_eq b 37
 
 -- the words of a line; an ignored line has none
 abbrev pub line_words : List ℕ → Words

@@ -1,7 +1,10 @@
 ghost use Rattle.std.specs.Prelude.{◌≡◌, ◌≤◌, ◌↔◌, unsigned_abs, IsSome, IfSome};
-ghost use Rattle.bc_algebra.specs.Within.{IsWithin};
+ghost use Rattle.bc_num.specs.Sizes.{IsCoord};
 
 use std::marker::Model;
+
+/// The greatest coordinate of an input: coordinates are from -1023 to 1023.
+pub const MOST_COORD: u64 = 1023;
 
 /// A coordinate of an input's vertex, end or centre: a whole number from -1023 to 1023.
 #[derive(Clone, Copy, Debug, PartialEq, Eq)]
@@ -11,13 +14,13 @@ pub struct Coord {
 
 impl Model for Coord {
     ghost use Rattle.std.specs.Prelude.{ℤ};
-    ghost use Rattle.bc_algebra.specs.Within.{IsWithin};
+    ghost use Rattle.bc_num.specs.Sizes.{IsCoord};
 
     ghost Value = { ℤ };
 
     ghost view = { λ c. c.value };
 
-    ghost invariant = { λ c. IsWithin 1023 c.value };
+    ghost invariant = { λ c. IsCoord c.value };
 
     ghost inverse = { λ z. record { value = z } };
 }
@@ -25,10 +28,10 @@ impl Model for Coord {
 impl Coord {
     /// The number as a coordinate. `None` exactly where it is outside -1023 to 1023.
     pub fn new(v: i64) -> Option<Coord>
-        ensures some { IsSome result ↔ IsWithin 1023 v }
+        ensures some { IsSome result ↔ IsCoord v }
         ensures value { IfSome result (λ c. c ≡ v) }
     {
-        if v.unsigned_abs() <= 1023 {
+        if v.unsigned_abs() <= MOST_COORD {
             Some(Coord { value: v })
         } else {
             None
@@ -38,7 +41,7 @@ impl Coord {
     /// The number, from -1023 to 1023.
     pub fn get(self) -> i64
         ensures value { result ≡ self }
-        ensures near { IsWithin 1023 result }
+        ensures near { IsCoord result }
     {
         self.value
     }

@@ -24,7 +24,7 @@ mod whole;
 
 pub use box2::Box2;
 pub use box3::Box3;
-pub use coord::Coord;
+pub use coord::{Coord, MOST_COORD};
 pub use directions::primitive2;
 pub use directions3::primitive3;
 pub use disc2::Disc2;
