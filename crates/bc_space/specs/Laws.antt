@@ -1,10 +1,23 @@
--- The laws that each space proves of its points, half-spaces and boxes, for numbers of any size.
-use Rattle.std.specs.Prelude.{◌≡◌, ◌≢◌, ℕ, ◌*◌, ◌<◌, ◌≤◌, List, length, Option, Some}
+-- The laws that each space proves of its points, half-spaces and boxes, for numbers of any size. The files of `Laws/` prove
+-- them for the plane and for space; they stand here since an `impl` names no file of proofs/.
+pub mod LowestTerms
+pub mod Signs
+pub mod HullOfWays
+pub mod EdgesOfWays
+pub mod FlatMeets
+pub mod FlatWays
+pub mod FlatLaws
+pub mod FlatEdges
+pub mod SolidMeets
+pub mod SolidWays
+pub mod SolidLaws
+pub mod SolidEdges
+use Rattle.std.specs.Prelude.{◌≡◌, ◌≢◌, ℕ, ◌+◌, ◌*◌, ◌<◌, ◌≤◌, ◌⊎◌, List, [], ◌∷◌, ◌++◌, length, Option, Some}
 use Rattle.std.specs.List.{All, fold}
-use Rattle.bc_hull.specs.Choices.{IsMeet}
+use Rattle.bc_hull.specs.Choices.{IsPart, IsMeet}
 use Rattle.bc_space.specs.declared.side.Side.{Side}
 use Rattle.bc_space.specs.declared.side.Side.TheVariants.{Below, On, Above}
-use Rattle.bc_space.specs.Regions.{IsFree, IsInRegion, IsCorner}
+use Rattle.bc_space.specs.Regions.{IsFree, IsInRegion, IsCorner, IsEnd}
 
 -- a positive factor on the numbers of a point keeps its side
 pub record FactorLaw {P H : Type 0} (side : H → P → Side) (is_multiple : P → P → Type 0) : Type 0 where
@@ -32,6 +45,12 @@ pub record HullLaw {P H B : Type 0} (side : H → P → Side) (met : List H → 
       → (c : P) × IsCorner side met dimension (walls b) hs q c × (side h c ≢ Above)
   pub not_all_on : (b : B) (hs : List H) (q : P) (h : H) → IsFree side (walls b) hs q
       → (c : P) × IsCorner side met dimension (walls b) hs q c × (side h c ≢ On)
+
+-- the edge law: where h and others of the list meet in a point of a free point's region, the point is a corner of the
+-- region, or between two corners of it that are on the same others, one Above h and one Below
+pub record EdgeLaw {P H B : Type 0} (side : H → P → Side) (met : List H → Option P) (dimension : ℕ) (walls : B → List H) : Type 0 where
+  pub ends : (b : B) (hs : List H) (q c : P) (h : H) (gs : List H) → IsFree side (walls b) hs q → IsInRegion side (walls b) hs q c → IsPart gs (walls b ++ hs) → length gs + 1 ≡ dimension → met (gs ++ h ∷ []) ≡ Some c
+      → IsCorner side met dimension (walls b) hs q c ⊎ (((a : P) × IsEnd side met dimension (walls b) hs q h gs Above a) × ((a : P) × IsEnd side met dimension (walls b) hs q h gs Below a))
 
 -- the size law: the mediant of 1 to 15,180 meets of half-spaces within their sizes is within the size of inner points
 pub record SizeLaw {P H : Type 0} (sized : H → Type 0) (inner : P → Type 0) (mixed : P → P → P) (met : List H → Option P) (dimension : ℕ) : Type 0 where

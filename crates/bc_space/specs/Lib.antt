@@ -3,16 +3,9 @@ pub mod Lines
 pub mod Discs
 pub mod LinesThrough
 pub mod Regions
+pub mod LowestTerms
 pub mod Laws
-pub mod Signs
-pub mod HullOfWays
 pub mod Flat
-pub mod FlatMeets
-pub mod FlatWays
-pub mod FlatLaws
 pub mod Planes
 pub mod PlanesThrough
 pub mod Solid
-pub mod SolidMeets
-pub mod SolidWays
-pub mod SolidLaws

@@ -1,7 +1,7 @@
 ghost use Rattle.std.specs.Prelude.{◌≡◌, ◌-◌, ◌^◌, ◌-ℤ◌, ◌*ℤ◌, [], ◌∷◌, Some};
 ghost use Rattle.bc_algebra.specs.Within.{IsWithin};
 ghost use Rattle.bc_space.specs.Lines.{IsSizedLine};
-ghost use Rattle.bc_space.specs.Flat.{IsSizedBox2, left, right, low, high, point_over2, met2};
+ghost use Rattle.bc_space.specs.Flat.{left, right, low, high, point_over2, met2};
 
 use crate::{Line2, Space};
 use bc_num::{Box2, P2, reduce2};
@@ -16,9 +16,10 @@ impl Space for Flat {
     ghost use Rattle.bc_num.specs.Sizes.{IsSmallPoint, IsLargePoint};
     ghost use Rattle.bc_space.specs.Lines.{IsSizedLine};
     ghost use Rattle.bc_space.specs.Flat.{IsSizedBox2, mixed2, met2, walls2};
-    ghost use Rattle.bc_space.specs.FlatWays.{flat_hull};
-    ghost use Rattle.bc_space.specs.FlatMeets.{flat_meet};
-    ghost use Rattle.bc_space.specs.FlatLaws.{flat_factor, flat_mediant, flat_size, flat_box, flat_side_fits};
+    ghost use Rattle.bc_space.specs.Laws.FlatWays.{flat_hull};
+    ghost use Rattle.bc_space.specs.Laws.FlatEdges.{flat_edge};
+    ghost use Rattle.bc_space.specs.Laws.FlatMeets.{flat_meet};
+    ghost use Rattle.bc_space.specs.Laws.FlatLaws.{flat_factor, flat_mediant, flat_size, flat_box, flat_side_fits};
 
     type Point = P2;
 
@@ -68,10 +69,10 @@ impl Space for Flat {
 
     fn wall(bounds: &Box2, i: usize) -> Line2 {
         match i {
-            0 => left_of(bounds),
-            1 => right_of(bounds),
-            2 => low_of(bounds),
-            _ => high_of(bounds),
+            0 => left_of(*bounds),
+            1 => right_of(*bounds),
+            2 => low_of(*bounds),
+            _ => high_of(*bounds),
         }
     }
 
@@ -80,6 +81,8 @@ impl Space for Flat {
     ghost mediant = { flat_mediant };
 
     ghost hull = { flat_hull };
+
+    ghost edge = { flat_edge };
 
     ghost size = { flat_size };
 
@@ -133,8 +136,8 @@ fn point_over(x: i128, y: i128, w: i128) -> Option<P2>
     }
 }
 
-fn left_of(b: &Box2) -> Line2
-    ensures { result ≡ left b.now }
+fn left_of(b: Box2) -> Line2
+    ensures { result ≡ left b }
 {
     Line2 {
         a: 1,
@@ -143,9 +146,8 @@ fn left_of(b: &Box2) -> Line2
     }
 }
 
-fn right_of(b: &Box2) -> Line2
-    requires { IsSizedBox2 b.now }
-    ensures { result ≡ right b.now }
+fn right_of(b: Box2) -> Line2
+    ensures { result ≡ right b }
 {
     Line2 {
         a: -1,
@@ -154,8 +156,8 @@ fn right_of(b: &Box2) -> Line2
     }
 }
 
-fn low_of(b: &Box2) -> Line2
-    ensures { result ≡ low b.now }
+fn low_of(b: Box2) -> Line2
+    ensures { result ≡ low b }
 {
     Line2 {
         a: 0,
@@ -164,9 +166,8 @@ fn low_of(b: &Box2) -> Line2
     }
 }
 
-fn high_of(b: &Box2) -> Line2
-    requires { IsSizedBox2 b.now }
-    ensures { result ≡ high b.now }
+fn high_of(b: Box2) -> Line2
+    ensures { result ≡ high b }
 {
     Line2 {
         a: 0,

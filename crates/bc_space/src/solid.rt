@@ -2,7 +2,6 @@ ghost use Rattle.std.specs.Prelude.{◌≡◌, ◌-◌, ◌^◌, ◌-ℤ◌, ◌
 ghost use Rattle.bc_algebra.specs.Within.{IsWithin};
 ghost use Rattle.bc_space.specs.Planes.{IsSizedPlane};
 ghost use Rattle.bc_space.specs.Solid.{
-  IsSizedBox3,
   left3,
   right3,
   front3,
@@ -31,9 +30,10 @@ impl Space for Solid3 {
     ghost use Rattle.bc_num.specs.Sizes.{IsLargePoint3};
     ghost use Rattle.bc_space.specs.Planes.{IsSizedPlane};
     ghost use Rattle.bc_space.specs.Solid.{IsSizedBox3, mixed3, met3, walls3};
-    ghost use Rattle.bc_space.specs.SolidWays.{solid_hull};
-    ghost use Rattle.bc_space.specs.SolidMeets.{solid_meet};
-    ghost use Rattle.bc_space.specs.SolidLaws.{solid_factor, solid_mediant, solid_size, solid_box, solid_side_fits};
+    ghost use Rattle.bc_space.specs.Laws.SolidWays.{solid_hull};
+    ghost use Rattle.bc_space.specs.Laws.SolidEdges.{solid_edge};
+    ghost use Rattle.bc_space.specs.Laws.SolidMeets.{solid_meet};
+    ghost use Rattle.bc_space.specs.Laws.SolidLaws.{solid_factor, solid_mediant, solid_size, solid_box, solid_side_fits};
 
     type Point = P3;
 
@@ -84,12 +84,12 @@ impl Space for Solid3 {
 
     fn wall(bounds: &Box3, i: usize) -> Plane3 {
         match i {
-            0 => left_of(bounds),
-            1 => right_of(bounds),
-            2 => front_of(bounds),
-            3 => rear_of(bounds),
-            4 => low_of(bounds),
-            _ => high_of(bounds),
+            0 => left_of(*bounds),
+            1 => right_of(*bounds),
+            2 => front_of(*bounds),
+            3 => rear_of(*bounds),
+            4 => low_of(*bounds),
+            _ => high_of(*bounds),
         }
     }
 
@@ -98,6 +98,8 @@ impl Space for Solid3 {
     ghost mediant = { solid_mediant };
 
     ghost hull = { solid_hull };
+
+    ghost edge = { solid_edge };
 
     ghost size = { solid_size };
 
@@ -216,8 +218,8 @@ fn point_over(x: i128, y: i128, z: i128, w: i128) -> Option<P3>
     }
 }
 
-fn left_of(b: &Box3) -> Plane3
-    ensures { result ≡ left3 b.now }
+fn left_of(b: Box3) -> Plane3
+    ensures { result ≡ left3 b }
 {
     Plane3 {
         a: 1,
@@ -227,9 +229,8 @@ fn left_of(b: &Box3) -> Plane3
     }
 }
 
-fn right_of(b: &Box3) -> Plane3
-    requires { IsSizedBox3 b.now }
-    ensures { result ≡ right3 b.now }
+fn right_of(b: Box3) -> Plane3
+    ensures { result ≡ right3 b }
 {
     Plane3 {
         a: -1,
@@ -239,8 +240,8 @@ fn right_of(b: &Box3) -> Plane3
     }
 }
 
-fn front_of(b: &Box3) -> Plane3
-    ensures { result ≡ front3 b.now }
+fn front_of(b: Box3) -> Plane3
+    ensures { result ≡ front3 b }
 {
     Plane3 {
         a: 0,
@@ -250,9 +251,8 @@ fn front_of(b: &Box3) -> Plane3
     }
 }
 
-fn rear_of(b: &Box3) -> Plane3
-    requires { IsSizedBox3 b.now }
-    ensures { result ≡ rear3 b.now }
+fn rear_of(b: Box3) -> Plane3
+    ensures { result ≡ rear3 b }
 {
     Plane3 {
         a: 0,
@@ -262,8 +262,8 @@ fn rear_of(b: &Box3) -> Plane3
     }
 }
 
-fn low_of(b: &Box3) -> Plane3
-    ensures { result ≡ low3 b.now }
+fn low_of(b: Box3) -> Plane3
+    ensures { result ≡ low3 b }
 {
     Plane3 {
         a: 0,
@@ -273,9 +273,8 @@ fn low_of(b: &Box3) -> Plane3
     }
 }
 
-fn high_of(b: &Box3) -> Plane3
-    requires { IsSizedBox3 b.now }
-    ensures { result ≡ high3 b.now }
+fn high_of(b: Box3) -> Plane3
+    ensures { result ≡ high3 b }
 {
     Plane3 {
         a: 0,

@@ -6,7 +6,7 @@ use crate::HalfSpace;
 /// A space of points, half-spaces and boxes, with the laws that an arrangement of half-spaces rests on. The laws hold for
 /// numbers of any size; conditions on sizes stand at the calls.
 pub trait Space {
-    ghost use Rattle.bc_space.specs.Laws.{FactorLaw, MediantLaw, HullLaw, SizeLaw, MeetLaw, BoxLaw};
+    ghost use Rattle.bc_space.specs.Laws.{FactorLaw, MediantLaw, HullLaw, EdgeLaw, SizeLaw, MeetLaw, BoxLaw};
 
     type Point: Copy;
 
@@ -63,8 +63,7 @@ pub trait Space {
 
     /// The side of the box with index `i`, which is below `2 * dim()`. The inside of the box is Above it.
     fn wall(bounds: &Self::Bounds, i: usize) -> Self::Half
-        requires sized { box_fits bounds.now }
-        requires within { i < 2 * dimension }
+        requires { i < 2 * dimension }
         ensures { slice_get (walls bounds.now) i ≡ Some result };
 
     /// A positive factor on a point's numbers keeps its side.
@@ -75,6 +74,9 @@ pub trait Space {
 
     /// The corners of a region reach as far as the region does.
     ghost hull: { HullLaw Self.Half.side_of met dimension walls };
+
+    /// Where a half-space and others meet in a region, there is a corner, or an edge between two corners.
+    ghost edge: { EdgeLaw Self.Half.side_of met dimension walls };
 
     /// The mediants of meets are of a stated size.
     ghost size: { SizeLaw half_fits inner_fits mixed met dimension };

@@ -1,4 +1,5 @@
 -- The common point of three planes: it is there where the determinant is not 0, and it is on all three.
+-- A proof, which an `impl` rests on: so it stands in specs/.
 use Rattle.std.specs.Prelude.{◌≡◌, ◌≢◌, zero, suc, ℤ, pos, negsuc, ◌+ℤ◌, ◌-ℤ◌, ◌*ℤ◌, neg_ℤ, List, [], ◌∷◌, Some, refl}
 use Rattle.std.specs.List.{All}
 use Rattle.std.proofs.Common.{ap, ◌∙◌, subst}
@@ -16,7 +17,7 @@ use Rattle.bc_space.specs.declared.plane3.Plane3.{Plane3}
 use Rattle.bc_space.specs.Sides.{side_of_value}
 use Rattle.bc_space.specs.Planes.{plane_value, plane_side}
 use Rattle.bc_space.specs.Laws.{MeetLaw}
-use Rattle.bc_space.specs.FlatMeets.{turned_by, factor_some}
+use Rattle.bc_space.specs.Laws.FlatMeets.{turned_by, factor_some}
 use Rattle.bc_space.specs.Solid.{determinant_of_rows, cramer3_x, cramer3_y, cramer3_z, determinant3, point_over3, met3}
 
 -- c is x over w, y over w, z over w in lowest terms: its numbers are those over a factor, which may be negative
@@ -83,7 +84,7 @@ meets3 g h k n =
     let o = over_some (cramer3_x g h k) (cramer3_y g h k) (cramer3_z g h k) (determinant3 g h k) n in
     record { at = o.at; meet = o.is; of = over_is3 (cramer3_x g h k) (cramer3_y g h k) (cramer3_z g h k) (determinant3 g h k) o.at o.is }
 
-over_none : (x y z w : ℤ) (c : P3) → point_over3 x y z w ≡ Some c → w ≢ pos 0
+pub over_none : (x y z w : ℤ) (c : P3) → point_over3 x y z w ≡ Some c → w ≢ pos 0
 over_none x y z (pos zero) c e = cc
 over_none x y z (pos (suc n)) c e = λ r. cc
 over_none x y z (negsuc n) c e = λ r. cc

@@ -1,4 +1,5 @@
 -- The ways of the plane, and so its hull law.
+-- A proof, which an `impl` rests on: so it stands in specs/.
 use Rattle.std.proofs.Common.{◌≡◌, ◌≢◌, ℕ, zero, suc, ◌<◌, List, [], ◌∷◌, length, inl, inr, refl, sym, ap, ◌∙◌, subst, arith}
 use Rattle.std.proofs.lemmas.Int.{ints}
 use lib.IntN.{ℤ, pos, negsuc, ◌+ℤ◌, ◌-ℤ◌, ◌*ℤ◌, neg_ℤ}
@@ -9,34 +10,34 @@ use Rattle.bc_hull.specs.Choices.{IsIn, IsInsertion}
 use Rattle.bc_space.specs.Laws.{HullLaw}
 use Rattle.bc_hull.specs.Ways.{Direction, Meeting, Bound, AreWays}
 use Rattle.bc_hull.proofs.Values.{other_zero}
-use Rattle.bc_space.specs.HullOfWays.{hull_law}
+use Rattle.bc_space.specs.Laws.HullOfWays.{hull_law}
 use Rattle.bc_num.specs.declared.p2.P2.{P2}
 use Rattle.bc_space.specs.declared.line2.Line2.{Line2}
 use Rattle.bc_num.specs.declared.box2.Box2.{Box2}
 use Rattle.bc_space.specs.Lines.{line_value, line_side}
 use Rattle.bc_space.specs.Flat.{left, right, low, high, walls2, met2, cramer_x, cramer_y, determinant2}
-use Rattle.bc_space.specs.FlatMeets.{factor_some, meets2}
+use Rattle.bc_space.specs.Laws.FlatMeets.{factor_some, meets2}
 
-record Way2 : Type 0 where
-  x : ℤ
-  y : ℤ
+pub record Way2 : Type 0 where
+  pub x : ℤ
+  pub y : ℤ
 
-abbrev slope2 : Line2 → Way2 → ℤ
+abbrev pub slope2 : Line2 → Way2 → ℤ
 slope2 h u = h.a *ℤ u.x +ℤ h.b *ℤ u.y
 
 pub grown : (n : ℕ) (w : ℤ) → pos 0 <ℤ w → pos 0 <ℤ (pos (suc n) *ℤ w)
 grown n w h = pos-mul (pos (suc n)) w (pos-pos n) h
 
-abbrev move2 : P2 → ℕ → ℕ → Way2 → P2
+abbrev pub move2 : P2 → ℕ → ℕ → Way2 → P2
 move2 p a b u = record { x = pos (suc b) *ℤ p.x +ℤ pos a *ℤ u.x; y = pos (suc b) *ℤ p.y +ℤ pos a *ℤ u.y; w = pos (suc b) *ℤ p.w; positive = grown b p.w p.positive }
 
-abbrev back2 : Way2 → Way2
+abbrev pub back2 : Way2 → Way2
 back2 u = record { x = neg_ℤ u.x; y = neg_ℤ u.y }
 
-abbrev IsSome2 : Way2 → Type 0
+abbrev pub IsSome2 : Way2 → Type 0
 IsSome2 u = u.x ≡ pos 0 → u.y ≡ pos 0 → ⊥
 
-abbrev Independent2 : List Line2 → Type 0
+abbrev pub Independent2 : List Line2 → Type 0
 Independent2 [] = Unit {0}
 Independent2 (g ∷ []) = g.a ≡ pos 0 → g.b ≡ pos 0 → ⊥
 Independent2 (g ∷ (h ∷ [])) = determinant2 g h ≢ pos 0
@@ -156,10 +157,10 @@ squares (pos zero) b n = let s = pos-square b (λ e. n refl e) in omega (arith, 
 squares (pos (suc m)) b n = let s = nonneg-square b in omega (arith, ints, s)
 squares (negsuc m) b n = let s = nonneg-square b in omega (arith, ints, s)
 
-line_some : (g : Line2) → g.a ≡ pos 0 → g.b ≡ pos 0 → ⊥
+pub line_some : (g : Line2) → g.a ≡ pos 0 → g.b ≡ pos 0 → ⊥
 line_some g e f = let n = g.normal in absurd (omega (arith, ints, n, e, f))
 
-ways2 : AreWays line_value met2 2 walls2 slope2 move2 back2 IsSome2 Independent2
+pub ways2 : AreWays line_value met2 2 walls2 slope2 move2 back2 IsSome2 Independent2
 ways2 = record {
   move_law = record { moved = λ h p a b u. moved h.a h.b h.d p.x p.y p.w (pos (suc b)) (pos a) u.x u.y };
   back_slope = λ h u. turned h.a h.b u.x u.y;

@@ -1,4 +1,5 @@
 -- The ways of space, and so its hull law.
+-- A proof, which an `impl` rests on: so it stands in specs/.
 use Rattle.std.proofs.Common.{◌≡◌, ◌≢◌, ℕ, zero, suc, ◌<◌, List, [], ◌∷◌, length, ◌⊎◌, inl, inr, refl, sym, ap, ◌∙◌, subst, arith}
 use Rattle.std.proofs.lemmas.Int.{ints}
 use lib.IntN.{ℤ, pos, negsuc, ◌+ℤ◌, ◌-ℤ◌, ◌*ℤ◌, neg_ℤ}
@@ -8,38 +9,38 @@ use Rattle.bc_algebra.proofs.Order.{pos-square, nonneg-square}
 use Rattle.bc_hull.specs.Choices.{IsIn, IsInsertion}
 use Rattle.bc_space.specs.Laws.{HullLaw}
 use Rattle.bc_hull.specs.Ways.{Direction, Meeting, Bound, AreWays}
-use Rattle.bc_space.specs.HullOfWays.{hull_law}
+use Rattle.bc_space.specs.Laws.HullOfWays.{hull_law}
 use Rattle.bc_num.specs.declared.p3.P3.{P3}
 use Rattle.bc_space.specs.declared.plane3.Plane3.{Plane3}
 use Rattle.bc_num.specs.declared.box3.Box3.{Box3}
 use Rattle.bc_space.specs.Planes.{plane_value, plane_side}
-use Rattle.bc_space.specs.FlatMeets.{factor_some}
-use Rattle.bc_space.specs.FlatWays.{grown, neg_some, neg-zero, proportion}
+use Rattle.bc_space.specs.Laws.FlatMeets.{factor_some}
+use Rattle.bc_space.specs.Laws.FlatWays.{grown, neg_some, neg-zero, proportion}
 use Rattle.bc_space.specs.Solid.{left3, right3, front3, rear3, low3, high3, walls3, met3, determinant_of_rows, cramer3_x, cramer3_y, cramer3_z, determinant3}
-use Rattle.bc_space.specs.SolidMeets.{meets3}
+use Rattle.bc_space.specs.Laws.SolidMeets.{meets3}
 
-record Way3 : Type 0 where
-  x : ℤ
-  y : ℤ
-  z : ℤ
+pub record Way3 : Type 0 where
+  pub x : ℤ
+  pub y : ℤ
+  pub z : ℤ
 
-abbrev slope3 : Plane3 → Way3 → ℤ
+abbrev pub slope3 : Plane3 → Way3 → ℤ
 slope3 h u = h.a *ℤ u.x +ℤ h.b *ℤ u.y +ℤ h.c *ℤ u.z
 
-abbrev move3 : P3 → ℕ → ℕ → Way3 → P3
+abbrev pub move3 : P3 → ℕ → ℕ → Way3 → P3
 move3 p a b u = record { x = pos (suc b) *ℤ p.x +ℤ pos a *ℤ u.x; y = pos (suc b) *ℤ p.y +ℤ pos a *ℤ u.y; z = pos (suc b) *ℤ p.z +ℤ pos a *ℤ u.z; w = pos (suc b) *ℤ p.w; positive = grown b p.w p.positive }
 
-abbrev back3 : Way3 → Way3
+abbrev pub back3 : Way3 → Way3
 back3 u = record { x = neg_ℤ u.x; y = neg_ℤ u.y; z = neg_ℤ u.z }
 
-abbrev IsSome3 : Way3 → Type 0
+abbrev pub IsSome3 : Way3 → Type 0
 IsSome3 u = u.x ≡ pos 0 → u.y ≡ pos 0 → u.z ≡ pos 0 → ⊥
 
 -- the way along both planes
-abbrev along_both : Plane3 → Plane3 → Way3
+abbrev pub along_both : Plane3 → Plane3 → Way3
 along_both g h = record { x = g.b *ℤ h.c -ℤ g.c *ℤ h.b; y = g.c *ℤ h.a -ℤ g.a *ℤ h.c; z = g.a *ℤ h.b -ℤ g.b *ℤ h.a }
 
-abbrev Independent3 : List Plane3 → Type 0
+abbrev pub Independent3 : List Plane3 → Type 0
 Independent3 [] = Unit {0}
 Independent3 (g ∷ []) = g.a ≡ pos 0 → g.b ≡ pos 0 → g.c ≡ pos 0 → ⊥
 Independent3 (g ∷ (h ∷ [])) = IsSome3 (along_both g h)
@@ -227,7 +228,7 @@ squares (negsuc m) b c n = let r = nonneg-square b in let s = nonneg-square c in
 plane_some : (g : Plane3) → g.a ≡ pos 0 → g.b ≡ pos 0 → g.c ≡ pos 0 → ⊥
 plane_some g d e f = let n = g.normal in absurd (omega (arith, ints, n, d, e, f))
 
-ways3 : AreWays plane_value met3 3 walls3 slope3 move3 back3 IsSome3 Independent3
+pub ways3 : AreWays plane_value met3 3 walls3 slope3 move3 back3 IsSome3 Independent3
 ways3 = record {
   move_law = record { moved = λ h p a b u. moved h.a h.b h.c h.d p.x p.y p.z p.w (pos (suc b)) (pos a) u.x u.y u.z };
   back_slope = λ h u. turned h.a h.b h.c u.x u.y u.z;

@@ -1,6 +1,7 @@
 -- Sides by the signs of values: lemmas for the proofs of the laws.
+-- A proof, which an `impl` rests on: so it stands in specs/.
 use Rattle.std.specs.Prelude.{◌≡◌, ◌≢◌, zero, suc, ℤ, pos, negsuc, ◌*ℤ◌, ◌≤ℤ◌, ◌<ℤ◌, refl}
-use Rattle.std.proofs.Common.{arith}
+use Rattle.std.proofs.Common.{ap, arith}
 use Rattle.std.proofs.lemmas.Int.{ints}
 use Rattle.bc_algebra.proofs.Order.{nonneg-mul}
 use Rattle.bc_space.specs.declared.side.Side.TheVariants.{Below, On, Above}
@@ -29,6 +30,9 @@ pub on_value : (z : ℤ) → side_of_value z ≡ On → z ≡ pos 0
 on_value (pos zero) h = refl
 on_value (pos (suc n)) h = cc
 on_value (negsuc n) h = cc
+
+pub zero_value : (z : ℤ) → z ≡ pos 0 → side_of_value z ≡ On
+zero_value z e = ap side_of_value e
 
 pub value_not_below : (z : ℤ) → pos 0 ≤ℤ (pos 1 *ℤ z) → side_of_value z ≢ Below
 value_not_below (pos zero) h = λ e. cc

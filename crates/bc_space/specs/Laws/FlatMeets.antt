@@ -1,4 +1,5 @@
 -- The common point of two lines: it is there where the determinant is not 0, and it is on both.
+-- A proof, which an `impl` rests on: so it stands in specs/.
 use Rattle.std.specs.Prelude.{◌≡◌, ◌≢◌, zero, suc, ℤ, pos, negsuc, ◌+ℤ◌, ◌-ℤ◌, ◌*ℤ◌, neg_ℤ, List, [], ◌∷◌, Some, refl}
 use Rattle.std.specs.List.{All}
 use Rattle.std.proofs.Common.{sym, ap, ◌∙◌, subst, arith}
@@ -93,7 +94,7 @@ factor_some k cw n e off z = off (sym e ∙ ap (λ (l : ℤ). l *ℤ cw) z ∙ z
     zero_left : (v : ℤ) → pos 0 *ℤ v ≡ pos 0
     zero_left v = omega (arith, ints)
 
-over_none : (x y w : ℤ) (c : P2) → point_over2 x y w ≡ Some c → w ≢ pos 0
+pub over_none : (x y w : ℤ) (c : P2) → point_over2 x y w ≡ Some c → w ≢ pos 0
 over_none x y (pos zero) c e = cc
 over_none x y (pos (suc n)) c e = λ z. cc
 over_none x y (negsuc n) c e = λ z. cc
