@@ -1,7 +1,7 @@
 -- Lists: All of a front and a back, the places of members, and one more element.
 use Rattle.std.specs.Prelude.{◌≡◌, ℕ, zero, suc, ◌<◌, List, [], ◌∷◌, ◌++◌, length, map, Some, slice_get, ◌⊎◌}
 use Rattle.std.specs.List.{All, Any, Contains}
-use Rattle.std.proofs.Common.{refl, sym, ap, ◌∙◌, subst, inl, inr, arith}
+use Rattle.std.proofs.Common.{refl, sym, ap, ◌∙◌, subst, inl, inr, arith, get_or}
 use Rattle.std.proofs.lemmas.List.Elements.{All-head, All-tail, All-cons, All-nil, Contains-append_left, Contains-append_right, Contains-push, Contains-push_cases}
 use Rattle.std.proofs.lemmas.Option.{slice_get_within, slice_get-get_or, get_or_from_slice_get}
 use Rattle.bc_cells.specs.Constraints.{IsOnce}
@@ -47,6 +47,25 @@ once_push xs y once fresh i j c ei ej = elim (push_place xs y i c ei) [
   ]
 ]
 
+front_place : {X : Type 0} (xs ys : List X) (i : ℕ) (c : X) → slice_get xs i ≡ Some c → slice_get (xs ++ ys) i ≡ Some c
+front_place [] ys i c e = cc
+front_place (x ∷ xs) ys zero c e = e
+front_place (x ∷ xs) ys (suc i) c e = front_place xs ys i c e
+
+last_place : {X : Type 0} (xs : List X) (y : X) → slice_get (xs ++ y ∷ []) (length xs) ≡ Some y
+last_place [] y = refl
+last_place (x ∷ xs) y = last_place xs y
+
+pub once_front : {X : Type 0} (xs ys : List X) → IsOnce (xs ++ ys) → IsOnce xs
+once_front xs ys once i j c ei ej = once i j c (front_place xs ys i c ei) (front_place xs ys j c ej)
+
+pub once_fresh : {X : Type 0} (xs : List X) (y : X) → IsOnce (xs ++ y ∷ []) → Contains xs y → ⊥
+once_fresh xs y once h =
+    let a = at_contains xs y h in
+    let e : a.0 ≡ length xs = once a.0 (length xs) y (front_place xs (y ∷ []) a.0 y a.1) (last_place xs y) in
+    let l : a.0 < length xs = slice_get_within xs a.0 y a.1 in
+    omega arith
+
 pub once_nil : {X : Type 0} → IsOnce {X = X} []
 once_nil i j c e f = cc
 
@@ -64,3 +83,8 @@ any_right Q xs ys a = let h = Contains-append_right xs ys a.1 (a.0, a.2, a.3) in
 
 pub any_cases : {X : Type 0} (Q : X → Type 0) (xs : List X) (y : X) → Any Q (xs ++ y ∷ []) → Any Q xs ⊎ Q y
 any_cases Q xs y a = elim (Contains-push_cases xs y a.1 (a.0, a.2, a.3)) [ inl h ↦ inl (h.0, a.1, h.1, h.2, a.4) | inr e ↦ inr (subst Q (sym e) a.4) ]
+
+pub some_at : {X : Type 0} (xs : List X) (k : ℕ) → k < length xs → (x : X) × (x ≡ get_or xs k x)
+some_at [] k l = absurd (omega arith)
+some_at (x ∷ xs) zero l = (x, refl)
+some_at (x ∷ xs) (suc k) l = some_at xs k (omega arith)

@@ -1,5 +1,5 @@
 -- Regions by half-spaces and the side of each on which the region lies.
-use Rattle.std.specs.Prelude.{◌≡◌, ◌≢◌, ◌↔◌, ℕ, ◌+◌, List, [], ◌∷◌, ◌++◌, length, map, Option, Some, slice_get}
+use Rattle.std.specs.Prelude.{◌≡◌, ◌≢◌, ◌↔◌, ◌⊎◌, ℕ, ◌+◌, List, [], ◌∷◌, ◌++◌, length, map, Option, Some, slice_get}
 use Rattle.std.specs.List.{All, Contains}
 use Rattle.bc_space.specs.declared.side.Side.{Side}
 use Rattle.bc_space.specs.declared.side.Side.TheVariants.{Below, On, Above}
@@ -51,6 +51,33 @@ pub record IsMeetOn {P H : Type 0} (met : List H → Option P) (dimension : ℕ)
   pub part : IsPart halves from
   pub many : length halves + 1 ≡ dimension
   pub meet : met (halves ++ h ∷ []) ≡ Some c
+
+-- the half-spaces of the list on whose boundary p is
+abbrev pub keep_on : {H : Type 0} → Side → H → List H → List H
+keep_on Below g gs = gs
+keep_on On g gs = g ∷ gs
+keep_on Above g gs = gs
+
+abbrev pub through : {P H : Type 0} → (H → P → Side) → P → List H → List H
+through side p [] = []
+through side p (g ∷ gs) = keep_on (side g p) g (through side p gs)
+
+-- c is met by h and by others of the list that go through a point Above h and a point Below
+pub record IsCrossing {P H : Type 0} (side : H → P → Side) (met : List H → Option P) (dimension : ℕ) (from : List H) (h : H) (points : List P) (c : P) : Type 0 where
+  pub high : P
+  pub low : P
+  pub has_high : Contains points high
+  pub has_low : Contains points low
+  pub above : side h high ≡ Above
+  pub below : side h low ≡ Below
+  pub meet : IsMeetOn met dimension (through side low (through side high from)) h c
+
+-- new corners where h divides a region with the old corners: meets of h and others in the region, among them all that are
+-- no old corners
+pub record AreNew {S P H B : Type 0} (side : H → P → Side) (met : List H → Option P) (dimension : ℕ) (constraints : List (Constraint S P H B)) (h : H) (old new : List P) : Type 0 where
+  pub meets : (c : P) → Contains new c → IsMeetOn met dimension (halves_of constraints) h c
+  pub inside : (c : P) → Contains new c → IsInside side constraints c
+  pub all : (c : P) → IsMeetOn met dimension (halves_of constraints) h c → IsInside side constraints c → Contains old c ⊎ Contains new c
 
 -- the side of q
 abbrev pub facing : {S P H B : Type 0} → (H → P → Side) → P → H → Constraint S P H B

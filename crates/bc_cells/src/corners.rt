@@ -2,8 +2,8 @@
 ghost use Rattle.std.specs.Prelude.{◌≡◌, ◌≢◌, ◌↔◌, ◌*◌, ◌<◌, ◌≤◌, length, map, IsTrue, IfOk, OnOk, MatchOption, Some};
 ghost use Rattle.std.specs.List.{All, Contains};
 ghost use Rattle.bc_space.specs.declared.side.Side.TheVariants.{On};
-ghost use Rattle.bc_cells.specs.Constraints.{Toward, IsStrict, IsOnce, IsShut, HasVertices, IsCellOf, facing, inward};
-ghost use Rattle.bc_cells.specs.Gathers.{Gathers};
+ghost use Rattle.bc_cells.specs.Constraints.{Toward, IsInside, IsStrict, IsOnce, IsShut, HasVertices, IsCellOf, facing, inward};
+ghost use Rattle.bc_cells.specs.Gathers.{Gathers, Selects};
 
 use crate::{Cell, Constraint};
 use bc_num::{List, Memory};
@@ -45,6 +45,47 @@ pub(crate) fn inward_constraints<S: Space>(
         })?;
     }
     Ok(constraints)
+}
+
+/// Those of the points that are not strictly on the other side of `h`.
+pub(crate) fn points_toward<S: Space>(
+    alloc: Global,
+    h: &S::Half,
+    side: Side,
+    points: &[S::Point],
+) -> Result<List<S::Point>, Memory>
+    requires half { S.half_fits h.now }
+    requires fits { All S.point_fits points.now }
+    ensures { IfOk result (λ kept. Selects points.now kept (λ c. Toward side (S.Half.side_of h.now c))) }
+{
+    let mut kept = List::new(alloc);
+    for c in points {
+        if is_toward(side, h.side(c)) {
+            kept.push(*c)?;
+        }
+    }
+    Ok(kept)
+}
+
+/// Those of the points that are in the closed region of `q`, each once.
+pub(crate) fn points_inside<S: Space>(
+    alloc: Global,
+    halves: &[S::Half],
+    q: &S::Point,
+    points: &[S::Point],
+) -> Result<List<S::Point>, Memory>
+    requires sized { All S.half_fits halves.now }
+    requires fits { S.point_fits q.now }
+    requires points { All S.point_fits points.now }
+    ensures { IfOk result (λ kept. (c : S.Point) → Contains kept c ↔ (Contains points.now c × IsInside {S = S} {B = S.Bounds} S.Half.side_of (map (facing S.Half.side_of q.now) halves.now) c)) }
+{
+    let mut kept = List::new(alloc);
+    if points.is_empty() {
+        return Ok(kept);
+    }
+    let constraints = constraints_at::<S>(alloc, halves, q)?;
+    gather::<S>(constraints.as_slice(), points, &mut kept)?;
+    Ok(kept)
 }
 
 /// Adds those of the points that are nowhere strictly on the other side of a constraint.
@@ -165,7 +206,7 @@ fn inner_of<S: Space>(constraints: &[Constraint<S>], corners: &[S::Point]) -> Op
     Some(sum)
 }
 
-fn corner_on<S: Space>(f: &Constraint<S>, corners: &[S::Point]) -> Option<S::Point>
+pub(crate) fn corner_on<S: Space>(f: &Constraint<S>, corners: &[S::Point]) -> Option<S::Point>
     requires sized { S.half_fits f.now.half }
     requires fits { All S.point_fits corners.now }
     ensures { MatchOption result (All (λ c. S.Half.side_of f.now.half c ≢ f.now.side) corners.now) (λ c. Contains corners.now c × (S.Half.side_of f.now.half c ≡ f.now.side)) }

@@ -17,8 +17,7 @@ pub(crate) fn earlier_of<S: Space>(
     halves: &[S::Half],
     k: usize,
 ) -> Result<List<S::Half>, Memory>
-    requires bounds { S.box_fits bounds.now }
-    requires within { k ≤ length halves.now }
+    requires { k ≤ length halves.now }
     ensures { IfOk result (λ hs. hs ≡ S.walls bounds.now ++ take k halves.now) }
 {
     let mut all = walls_of::<S>(alloc, bounds)?;
@@ -30,7 +29,6 @@ pub(crate) fn earlier_of<S: Space>(
 
 /// The walls of the box.
 pub(crate) fn walls_of<S: Space>(alloc: Global, bounds: &S::Bounds) -> Result<List<S::Half>, Memory>
-    requires { S.box_fits bounds.now }
     ensures { IfOk result (λ ws. ws ≡ S.walls bounds.now) }
 {
     let mut walls = List::new(alloc);
@@ -57,16 +55,23 @@ pub(crate) fn meets_on<S: Space>(
     ensures { IfOk result (λ points. (c : S.Point) → Contains points c ↔ IsMeetOn S.met S.dimension earlier.now h.now c) }
 {
     let mut found = List::new(alloc);
-    let chosen = List::new(alloc);
-    add_meets::<S>(
-        alloc,
-        others::<S>(),
-        earlier,
-        chosen.as_slice(),
-        h,
-        &mut found,
-    )?;
+    add_meets_on::<S>(alloc, earlier, h, &mut found)?;
     Ok(found)
+}
+
+/// Adds the common points of `h` and one half-space fewer than there are dimensions of the list.
+pub(crate) fn add_meets_on<S: Space>(
+    alloc: Global,
+    from: &[S::Half],
+    h: &S::Half,
+    found: &mut List<S::Point>,
+) -> Result<(), Memory>
+    requires sized { All S.half_fits from.now }
+    requires half { S.half_fits h.now }
+    ensures { OnOk result (Gathers found.old found.new (λ c. IsMeetOn S.met S.dimension from.now h.now c)) }
+{
+    let chosen = List::new(alloc);
+    add_meets::<S>(alloc, others::<S>(), from, chosen.as_slice(), h, found)
 }
 
 fn others<S: Space>() -> usize

@@ -1,16 +1,19 @@
-//! The cell of the box, and the parts into which the next half-space divides all cells.
-ghost use Rattle.std.specs.Prelude.{◌≡◌, ◌≢◌, ◌↔◌, ◌+◌, ◌*◌, ◌^◌, ◌<◌, ◌≤◌, ◌++◌, [], length, take, map, IfOk, OnOk, MatchOption, Some};
-ghost use Rattle.std.specs.List.{All, Contains};
-ghost use Rattle.bc_space.specs.declared.side.Side.TheVariants.{On};
+//! The cell of the box, and the parts into which a half-space divides a cell.
+ghost use Rattle.std.specs.Prelude.{◌≡◌, ◌≢◌, ◌+◌, ◌*◌, ◌^◌, ◌<◌, ◌≤◌, [], length, map, IfOk, MatchOption};
+ghost use Rattle.std.specs.List.{All};
+ghost use Rattle.bc_space.specs.declared.side.Side.TheVariants.{Below, On, Above};
 ghost use Rattle.bc_space.specs.Regions.{bit_of_side};
-ghost use Rattle.bc_cells.specs.Constraints.{IsMeetOn, IsShut, IsCellOf, HasVertices, part_constraints, facing, inward};
-ghost use Rattle.bc_cells.specs.Cells.{AreCells, AreParts};
+ghost use Rattle.bc_cells.specs.Constraints.{IsShut, IsCellOf, HasVertices, AreNew, part_constraints, facing, inward};
+ghost use Rattle.bc_cells.specs.Cells.{AreCells, IsCellAmong};
 
-use crate::corners::{cell_of, constraints_at, gather, inward_constraints};
-use crate::meets::{earlier_of, meets_on, walls_of};
+use crate::corners::{
+    cell_of, constraints_at, corner_on, gather, inward_constraints, points_inside, points_toward,
+};
+use crate::crossings::crossings;
+use crate::meets::{meets_on, walls_of};
 use crate::{Cell, Constraint};
 use bc_num::{List, Memory};
-use bc_space::{Side, Space};
+use bc_space::{HalfSpace, Side, Space};
 use std::alloc::Global;
 
 /// The cell of the box alone, if the box has a free point.
@@ -59,66 +62,120 @@ fn box_corners<S: Space>(
     Ok(corners)
 }
 
-/// The cells of the first `k + 1` half-spaces, of those of the first `k`.
-pub(crate) fn divide<S: Space>(
-    alloc: Global,
-    bounds: &S::Bounds,
-    halves: &[S::Half],
-    k: usize,
-    cells: &[Cell<S>],
-) -> Result<List<Cell<S>>, Memory>
-    requires few { length halves.now ≤ 40 }
-    requires within { k < length halves.now }
-    requires sized { All S.half_fits halves.now }
-    requires bounds { S.box_fits bounds.now }
-    requires cells { AreCells S.inner_fits S.Half.side_of S.met S.dimension (S.walls bounds.now) (take k halves.now) cells.now }
-    ensures { IfOk result (AreCells S.inner_fits S.Half.side_of S.met S.dimension (S.walls bounds.now) (take (k + 1) halves.now)) }
-{
-    let mut parts = List::new(alloc);
-    add_parts::<S>(alloc, bounds, halves, k, Side::Below, cells, &mut parts)?;
-    add_parts::<S>(alloc, bounds, halves, k, Side::Above, cells, &mut parts)?;
-    Ok(parts)
+/// The two parts of a cell, where it has them.
+#[derive(Drop)]
+pub struct Parted<S: Space> {
+    pub below: Option<Cell<S>>,
+    pub above: Option<Cell<S>>,
 }
 
-fn add_parts<S: Space>(
+/// The parts of a cell of the earlier half-spaces on both sides of the next one, which has the place `k`.
+pub(crate) fn parts_of<S: Space>(
     alloc: Global,
-    bounds: &S::Bounds,
-    halves: &[S::Half],
+    earlier: &[S::Half],
+    h: &S::Half,
+    k: usize,
+    parent: &Cell<S>,
+) -> Result<Parted<S>, Memory>
+    requires place { k < 40 }
+    requires few { length earlier.now ≤ 45 }
+    requires sized { All S.half_fits earlier.now }
+    requires half { S.half_fits h.now }
+    requires parent { IsCellAmong S.inner_fits S.Half.side_of S.met S.dimension S.walls earlier.now parent.now }
+    requires mask { parent.now.mask < 2 ^ k }
+    ensures below { IfOk result (λ r. MatchOption r.below (IsShut {S = S} {B = S.Bounds} S.Half.side_of S.met S.dimension (part_constraints S.Half.side_of earlier.now parent.now.inner h.now Below)) (IsCellOf S.inner_fits S.Half.side_of S.met S.dimension (part_constraints S.Half.side_of earlier.now parent.now.inner h.now Below) (parent.now.mask + bit_of_side Below * 2 ^ k))) }
+    ensures above { IfOk result (λ r. MatchOption r.above (IsShut {S = S} {B = S.Bounds} S.Half.side_of S.met S.dimension (part_constraints S.Half.side_of earlier.now parent.now.inner h.now Above)) (IsCellOf S.inner_fits S.Half.side_of S.met S.dimension (part_constraints S.Half.side_of earlier.now parent.now.inner h.now Above) (parent.now.mask + bit_of_side Above * 2 ^ k))) }
+{
+    let found = crossings::<S>(alloc, earlier, h, parent.corners.as_slice())?;
+    let inside = points_inside::<S>(alloc, earlier, &parent.inner, found.as_slice())?;
+    let new = inside.as_slice();
+    let below = part::<S>(alloc, earlier, h, k, Side::Below, new, parent)?;
+    let above = part::<S>(alloc, earlier, h, k, Side::Above, new, parent)?;
+    Ok(Parted { below, above })
+}
+
+// The part of a cell on one side of another half-space, if it has one.
+fn part<S: Space>(
+    alloc: Global,
+    earlier: &[S::Half],
+    h: &S::Half,
     k: usize,
     side: Side,
-    cells: &[Cell<S>],
-    kept: &mut List<Cell<S>>,
-) -> Result<(), Memory>
-    requires few { length halves.now ≤ 40 }
-    requires within { k < length halves.now }
-    requires sized { All S.half_fits halves.now }
-    requires bounds { S.box_fits bounds.now }
-    requires cells { AreCells S.inner_fits S.Half.side_of S.met S.dimension (S.walls bounds.now) (take k halves.now) cells.now }
+    new: &[S::Point],
+    parent: &Cell<S>,
+) -> Result<Option<Cell<S>>, Memory>
+    requires place { k < 40 }
+    requires few { length earlier.now ≤ 45 }
+    requires sized { All S.half_fits earlier.now }
+    requires half { S.half_fits h.now }
     requires side { side ≢ On }
-    ensures { OnOk result ((parts : _) × (kept.new ≡ kept.old ++ parts) × AreParts S.inner_fits S.Half.side_of S.met S.dimension (S.walls bounds.now) halves.now k (bit_of_side side * 2 ^ k) cells.now parts) }
+    requires mask { parent.now.mask < 2 ^ k }
+    requires fits { S.inner_fits parent.now.inner }
+    requires off { All (λ g. S.Half.side_of g parent.now.inner ≢ On) earlier.now }
+    requires vertices { HasVertices {S = S} {B = S.Bounds} S.Half.side_of S.met S.dimension (map (facing S.Half.side_of parent.now.inner) earlier.now) parent.now.corners }
+    requires new { AreNew {S = S} {B = S.Bounds} S.Half.side_of S.met S.dimension (map (facing S.Half.side_of parent.now.inner) earlier.now) h.now parent.now.corners new.now }
+    ensures { IfOk result (λ r. MatchOption r (IsShut {S = S} {B = S.Bounds} S.Half.side_of S.met S.dimension (part_constraints S.Half.side_of earlier.now parent.now.inner h.now side)) (IsCellOf S.inner_fits S.Half.side_of S.met S.dimension (part_constraints S.Half.side_of earlier.now parent.now.inner h.now side) (parent.now.mask + bit_of_side side * 2 ^ k))) }
 {
-    let h = halves[k];
-    let earlier = earlier_of::<S>(alloc, bounds, halves, k)?;
-    let on = meets_on::<S>(alloc, earlier.as_slice(), &h)?;
-    let add = bit_at(side, k);
-    for c in cells {
-        match part::<S>(
-            alloc,
-            c.mask + add,
-            earlier.as_slice(),
-            &h,
-            side,
-            on.as_slice(),
-            c,
-        )? {
-            None => {}
-            Some(d) => kept.push(d)?,
-        }
+    let last = Constraint { half: *h, side };
+    if let None = corner_on::<S>(&last, parent.corners.as_slice()) {
+        return Ok(None);
     }
-    Ok(())
+    let mask = parent.mask + bit_at(side, k);
+    let corners = corners_of_part::<S>(alloc, earlier, h, side, new, parent)?;
+    if h.side(&parent.inner) == side {
+        return Ok(Some(Cell {
+            mask,
+            inner: parent.inner,
+            corners,
+        }));
+    }
+    let constraints = constraints_of_part::<S>(alloc, earlier, h, side, &parent.inner)?;
+    Ok(cell_of::<S>(mask, constraints.as_slice(), corners))
 }
 
-pub(crate) fn bit_at(side: Side, k: usize) -> u64
+// The corners of a part: those of the cell on its side, and the new ones.
+fn corners_of_part<S: Space>(
+    alloc: Global,
+    earlier: &[S::Half],
+    h: &S::Half,
+    side: Side,
+    new: &[S::Point],
+    parent: &Cell<S>,
+) -> Result<List<S::Point>, Memory>
+    requires sized { All S.half_fits earlier.now }
+    requires half { S.half_fits h.now }
+    requires fits { S.inner_fits parent.now.inner }
+    requires vertices { HasVertices {S = S} {B = S.Bounds} S.Half.side_of S.met S.dimension (map (facing S.Half.side_of parent.now.inner) earlier.now) parent.now.corners }
+    requires new { AreNew {S = S} {B = S.Bounds} S.Half.side_of S.met S.dimension (map (facing S.Half.side_of parent.now.inner) earlier.now) h.now parent.now.corners new.now }
+    ensures { IfOk result (HasVertices {S = S} {B = S.Bounds} S.Half.side_of S.met S.dimension (part_constraints S.Half.side_of earlier.now parent.now.inner h.now side)) }
+{
+    let mut corners = points_toward::<S>(alloc, h, side, parent.corners.as_slice())?;
+    if new.is_empty() {
+        return Ok(corners);
+    }
+    let mut last = List::new(alloc);
+    last.push(Constraint { half: *h, side })?;
+    gather::<S>(last.as_slice(), new, &mut corners)?;
+    Ok(corners)
+}
+
+fn constraints_of_part<S: Space>(
+    alloc: Global,
+    earlier: &[S::Half],
+    h: &S::Half,
+    side: Side,
+    inner: &S::Point,
+) -> Result<List<Constraint<S>>, Memory>
+    requires sized { All S.half_fits earlier.now }
+    requires fits { S.inner_fits inner.now }
+    ensures { IfOk result (λ fs. fs ≡ part_constraints S.Half.side_of earlier.now inner.now h.now side) }
+{
+    let mut constraints = constraints_at::<S>(alloc, earlier, inner)?;
+    constraints.push(Constraint { half: *h, side })?;
+    Ok(constraints)
+}
+
+fn bit_at(side: Side, k: usize) -> u64
     requires { k < 40 }
     ensures { result ≡ bit_of_side side * 2 ^ k }
 {
@@ -126,34 +183,4 @@ pub(crate) fn bit_at(side: Side, k: usize) -> u64
         Side::Above => 1 << k,
         _ => 0,
     }
-}
-
-/// The part of a cell on one side of another half-space, if it has one.
-pub(crate) fn part<S: Space>(
-    alloc: Global,
-    mask: u64,
-    earlier: &[S::Half],
-    h: &S::Half,
-    side: Side,
-    on: &[S::Point],
-    parent: &Cell<S>,
-) -> Result<Option<Cell<S>>, Memory>
-    requires few { length earlier.now ≤ 45 }
-    requires sized { All S.half_fits earlier.now }
-    requires half { S.half_fits h.now }
-    requires side { side ≢ On }
-    requires fits { S.inner_fits parent.now.inner }
-    requires off { All (λ g. S.Half.side_of g parent.now.inner ≢ On) earlier.now }
-    requires vertices { HasVertices {S = S} {B = S.Bounds} S.Half.side_of S.met S.dimension (map (facing S.Half.side_of parent.now.inner) earlier.now) parent.now.corners }
-    requires on { (c : S.Point) → Contains on.now c ↔ IsMeetOn S.met S.dimension earlier.now h.now c }
-    ensures { IfOk result (λ r. MatchOption r (IsShut {S = S} {B = S.Bounds} S.Half.side_of S.met S.dimension (part_constraints S.Half.side_of earlier.now parent.now.inner h.now side)) (IsCellOf S.inner_fits S.Half.side_of S.met S.dimension (part_constraints S.Half.side_of earlier.now parent.now.inner h.now side) mask)) }
-{
-    let mut corners = List::new(alloc);
-    let mut last = List::new(alloc);
-    last.push(Constraint { half: *h, side })?;
-    gather::<S>(last.as_slice(), parent.corners.as_slice(), &mut corners)?;
-    let mut constraints = constraints_at::<S>(alloc, earlier, &parent.inner)?;
-    constraints.push(Constraint { half: *h, side })?;
-    gather::<S>(constraints.as_slice(), on, &mut corners)?;
-    Ok(cell_of::<S>(mask, constraints.as_slice(), corners))
 }
