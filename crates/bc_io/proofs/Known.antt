@@ -1,7 +1,7 @@
 -- Steps over bytes that an object tells, or doesn't.
-use Rattle.std.proofs.Common.{Result, Ok, Err, IsErr, subst, ◌⊎◌, inl, inr, ◌≡◌, ◌≤◌, ◌-◌, ◌+◌, ◌<◌, min, ℕ, length, take, drop, take-append-drop, arith, List, [], ◌++◌, Option, None, Some, append_assoc, append-nil, refl, sym, ap, ◌∙◌}
+use Rattle.std.proofs.Common.{Result, Ok, Err, IsErr, subst, ◌⊎◌, inl, inr, ◌≡◌, ◌≤◌, ◌-◌, ◌+◌, ◌<◌, min, ℕ, length, take, drop, take-append-drop, arith, List, [], ◌++◌, Option, None, Some, append_assoc, append-nil, sym, ap, ◌∙◌}
 use Rattle.std.proofs.lemmas.Grind.{common_steps}
-use Rattle.std.specs.Io.KnownBytes.{Appends, Consumes, Keeps}
+use Rattle.std.specs.Io.KnownBytes.{Appends}
 use Rattle.bc_io.specs.Causes.{HasCause, Rose}
 use Rattle.bc_io.specs.Pieces.{AppendsFront, Puts}
 
@@ -14,22 +14,6 @@ Appends-trans None b c xs ys p q = tt
 Appends-trans (Some x) None c xs ys p q = absurd p
 Appends-trans (Some x) (Some y) None xs ys p q = absurd q
 Appends-trans (Some x) (Some y) (Some z) xs ys p q = q ∙ ap (λ l. l ++ ys) p ∙ append_assoc x xs ys
-
-pub Appends-kept : (a b c : Option (List ℕ)) (xs : List ℕ) → Appends a b xs → Keeps b c → Appends a c xs
-Appends-kept None b c xs p q = tt
-Appends-kept (Some x) None c xs p q = absurd p
-Appends-kept (Some x) (Some y) None xs p q = absurd q
-Appends-kept (Some x) (Some y) (Some z) xs p q = q ∙ p
-
-pub Consumes-nil : (a : Option (List ℕ)) → Consumes a a []
-Consumes-nil None = tt
-Consumes-nil (Some x) = refl
-
-pub Consumes-trans : (a b c : Option (List ℕ)) (xs ys : List ℕ) → Consumes a b xs → Consumes b c ys → Consumes a c (xs ++ ys)
-Consumes-trans None b c xs ys p q = tt
-Consumes-trans (Some x) None c xs ys p q = absurd p
-Consumes-trans (Some x) (Some y) None xs ys p q = absurd q
-Consumes-trans (Some x) (Some y) (Some z) xs ys p q = p ∙ ap (λ l. xs ++ l) q ∙ sym (append_assoc xs ys z)
 
 -- the front of the rest is taken too
 pub taken : (piece front rest : List ℕ) (n : ℕ) → n ≤ length rest → piece ≡ front ++ rest → piece ≡ (front ++ take n rest) ++ take (length rest - n) (drop n rest)
@@ -55,10 +39,6 @@ at_end bytes at n room most e some h zero =
 
 -- ---- texts put one after another
 
-pub Puts-first : {T E : Type 0} (a b c : Option (List ℕ)) (r : Result T E) (xs ys : List ℕ) → Appends a b xs → Puts b c r ys → Puts a c r (xs ++ ys)
-Puts-first a b c (Ok x) xs ys p q = Appends-trans a b c xs ys p q
-Puts-first a b c (Err e) xs ys p q = (xs ++ q.0, q.1, ap (λ l. xs ++ l) q.2 ∙ sym (append_assoc xs q.0 q.1), Appends-trans a b c xs q.0 p q.3)
-
 pub AppendsFront-more : (a b : Option (List ℕ)) (xs ys : List ℕ) → AppendsFront a b xs → AppendsFront a b (xs ++ ys)
 AppendsFront-more a b xs ys p = (p.0, p.1 ++ ys, ap (λ l. l ++ ys) p.2 ∙ append_assoc p.0 p.1 ys, p.3)
 
@@ -72,11 +52,6 @@ either_way a b text (Ok x) before now p q = inl p
 either_way a b text (Err e) before now p q = inr (p, q.failed)
 
 -- ---- where a later piece fails
-
--- the first of two texts fails
-pub stopped : {T E : Type 0} (a b : Option (List ℕ)) (r : Result T E) (xs ys : List ℕ) → IsErr r → AppendsFront a b xs → Puts a b r (xs ++ ys)
-stopped a b (Ok x) xs ys h p = cc
-stopped a b (Err e) xs ys h p = AppendsFront-more a b xs ys p
 
 -- the second of three
 pub stopped_behind : {T E : Type 0} (a b c : Option (List ℕ)) (r : Result T E) (xs ys zs : List ℕ) → IsErr r → Appends a b xs → AppendsFront b c ys → Puts a c r (xs ++ (ys ++ zs))

@@ -1,4 +1,4 @@
-ghost use Rattle.std.specs.Prelude.{◌≡◌, ◌≤◌, ◌<◌, List, ℕ, Option, Some, [], length, is_err, IfOk};
+ghost use Rattle.std.specs.Prelude.{◌≡◌, ◌≤◌, ◌<◌, List, ℕ, Option, Some, [], length, is_err, IfOk, OnOk};
 
 use crate::{Failed, Sink};
 use bc_num::Memory;
@@ -55,7 +55,7 @@ impl Sink for MemSink {
     ghost use Rattle.std.specs.Io.{WritesAtMost};
     ghost use Rattle.std.specs.Io.KnownBytes.{WriteAppends};
     ghost use Rattle.bc_io.specs.Causes.{HasCause};
-    ghost use Rattle.bc_io.specs.Memory.{sink_held, sink_faults, sink_most, sink_fails};
+    ghost use Rattle.bc_io.specs.Memory.{sink_held, sink_faults, sink_most, sink_fails, sink_room, sink_plan, sink_calls, next_call};
 
     ghost held = { λ s. Some s.bytes.items };
 
@@ -66,9 +66,15 @@ impl Sink for MemSink {
         ensures some { 0 < length piece.now → IfOk result (λ n. 0 < n) }
         ensures bytes { WriteAppends (sink_held self.old) (sink_held self.new) result piece.now }
         ensures cause { HasCause (sink_faults self.old) (sink_faults self.new) result }
+        ensures good { OnOk result (sink_faults self.new ≡ sink_faults self.old) }
         // It fails exactly where this call is planned to or the room is used up, and takes no more than it may.
         ensures planned { is_err result ≡ sink_fails self.old piece.now }
         ensures at_most { IfOk result (λ n. n ≤ sink_most self.old) }
+        // Behind it the next call has the next number, and the rest of the plan stays.
+        ensures called { sink_calls self.new ≡ next_call (sink_calls self.old) }
+        ensures plan { sink_plan self.new ≡ sink_plan self.old }
+        ensures most { sink_most self.new ≡ sink_most self.old }
+        ensures room { sink_room self.new ≡ sink_room self.old }
     {
         self.calls = self.calls.saturating_add(1);
         let room = self.room - self.bytes.len();

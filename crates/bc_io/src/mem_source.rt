@@ -1,4 +1,4 @@
-ghost use Rattle.std.specs.Prelude.{◌≡◌, ◌≤◌, ◌<◌, List, ℕ, Option, Some, drop, length, is_err, IfOk};
+ghost use Rattle.std.specs.Prelude.{◌≡◌, ◌≤◌, ◌<◌, List, ℕ, Option, Some, drop, length, is_err, IfOk, OnOk};
 
 use crate::{Failed, Source};
 
@@ -43,7 +43,7 @@ impl Source for MemSource {
     ghost use Rattle.std.specs.Io.{ReadsAtMost};
     ghost use Rattle.std.specs.Io.KnownBytes.{ReadConsumes};
     ghost use Rattle.bc_io.specs.Causes.{HasCause};
-    ghost use Rattle.bc_io.specs.Memory.{source_left, source_faults, source_most, source_fails};
+    ghost use Rattle.bc_io.specs.Memory.{source_left, source_faults, source_most, source_fails, source_plan, source_calls, next_call};
 
     ghost left = { λ s. Some (drop s.at s.bytes.items) };
 
@@ -53,9 +53,14 @@ impl Source for MemSource {
         ensures bound { ReadsAtMost result buf.new }
         ensures bytes { ReadConsumes (source_left self.old) (source_left self.new) result buf.new }
         ensures cause { HasCause (source_faults self.old) (source_faults self.new) result }
+        ensures good { OnOk result (source_faults self.new ≡ source_faults self.old) }
         // It fails exactly where this call is planned to, and gives no more than it may.
         ensures planned { is_err result ≡ source_fails self.old }
         ensures at_most { IfOk result (λ n. n ≤ source_most self.old) }
+        // Behind it the next call has the next number, and the rest of the plan stays.
+        ensures called { source_calls self.new ≡ next_call (source_calls self.old) }
+        ensures plan { source_plan self.new ≡ source_plan self.old }
+        ensures most { source_most self.new ≡ source_most self.old }
     {
         self.calls = self.calls.saturating_add(1);
         if self.fails.contains(&self.calls) {

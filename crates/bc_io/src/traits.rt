@@ -1,4 +1,4 @@
-ghost use Rattle.std.specs.Prelude.{◌<◌, List, ℕ, Option, length, IfOk};
+ghost use Rattle.std.specs.Prelude.{◌≡◌, ◌<◌, List, ℕ, Option, length, IfOk, OnOk};
 ghost use Rattle.std.specs.Io.{ReadsAtMost, WritesAtMost};
 ghost use Rattle.std.specs.Io.KnownBytes.{ReadConsumes, WriteAppends};
 ghost use Rattle.bc_io.specs.Causes.{HasCause};
@@ -12,7 +12,7 @@ pub trait Source {
     /// The bytes that are left, where the source tells them.
     ghost left: { Self → Option (List ℕ) };
 
-    /// How often a read has failed. It never falls, and counts no further than its type goes.
+    /// How often a read has failed. It never falls, stays at each good read, and counts no further than its type goes.
     ghost faults: { Self → ℕ };
 
     /// Reads into the front of `buf`: `Ok(n)` says how many bytes, and 0 with room in `buf` is the end. `Failed` comes
@@ -20,7 +20,8 @@ pub trait Source {
     fn read(&mut self, buf: &mut [u8]) -> Result<usize, Failed>
         ensures bound { ReadsAtMost result buf.new }
         ensures bytes { ReadConsumes (left self.old) (left self.new) result buf.new }
-        ensures cause { HasCause (faults self.old) (faults self.new) result };
+        ensures cause { HasCause (faults self.old) (faults self.new) result }
+        ensures good { OnOk result (faults self.new ≡ faults self.old) };
 }
 
 /// Where bytes are written to. A sink may tell which bytes it took.
@@ -28,7 +29,7 @@ pub trait Sink {
     /// The bytes that it took, where the sink tells them.
     ghost held: { Self → Option (List ℕ) };
 
-    /// How often a write has failed. It never falls, and counts no further than its type goes.
+    /// How often a write has failed. It never falls, stays at each good write, and counts no further than its type goes.
     ghost faults: { Self → ℕ };
 
     /// Takes the front of `piece`: `Ok(n)` says how many bytes, at least one of a piece that has some. `Failed` comes
@@ -37,5 +38,6 @@ pub trait Sink {
         ensures bound { WritesAtMost result piece.now }
         ensures some { 0 < length piece.now → IfOk result (λ n. 0 < n) }
         ensures bytes { WriteAppends (held self.old) (held self.new) result piece.now }
-        ensures cause { HasCause (faults self.old) (faults self.new) result };
+        ensures cause { HasCause (faults self.old) (faults self.new) result }
+        ensures good { OnOk result (faults self.new ≡ faults self.old) };
 }

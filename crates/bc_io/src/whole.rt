@@ -1,4 +1,4 @@
-ghost use Rattle.std.specs.Prelude.{◌≡◌, ◌+◌, ◌<◌, ◌≤◌, ◌^◌, List, ℕ, length, IfOk, IfSome, IsErrOf};
+ghost use Rattle.std.specs.Prelude.{◌≡◌, ◌+◌, ◌<◌, ◌≤◌, ◌^◌, List, ℕ, length, IfOk, OnOk, IfSome, IsErrOf};
 ghost use Rattle.std.specs.Io.KnownBytes.{Consumes, IsAtEnd};
 ghost use Rattle.bc_io.specs.Causes.{HasCause, Rose};
 ghost use Rattle.bc_io.specs.Pieces.{Puts};
@@ -21,6 +21,7 @@ pub enum ReadEnd {
 pub fn put_all<K: Sink>(out: &mut K, piece: &[u8]) -> Result<(), Failed>
     ensures bytes { Puts (K.held out.old) (K.held out.new) result piece.now }
     ensures cause { HasCause (K.faults out.old) (K.faults out.new) result }
+    ensures good { OnOk result (K.faults out.new ≡ K.faults out.old) }
 {
     let mut rest = piece;
     while !rest.is_empty() {
@@ -41,6 +42,7 @@ pub fn read_all<S: Source>(alloc: Global, src: &mut S, limit: usize) -> Result<V
         → (came : List ℕ) × (length came ≡ limit + 1) × Consumes (S.left src.old) (S.left src.new) came }
     ensures fault { IsErrOf result ReadEnd.Fault → Rose (S.faults src.old) (S.faults src.new) }
     ensures later { S.faults src.old ≤ S.faults src.new }
+    ensures good { OnOk result (S.faults src.new ≡ S.faults src.old) }
 {
     let mut all = Vec::new(alloc);
     let mut chunk = [0u8; 4096];

@@ -1,4 +1,4 @@
-use Rattle.std.proofs.Common.{◌++◌, take, arith}
+use Rattle.std.proofs.Common.{◌++◌, ◌∙◌, take}
 use Rattle.bc_io.proofs.Known.{Appends-trans, taken}
 use Rattle.bc_io.proofs.whole.put_all.Goals as goal
 
@@ -7,5 +7,5 @@ loop-rest-preserved g c =
     let so_far = c.loop-rest.invariant.bytes in
     record {
       bytes = (so_far.0 ++ take c.in_ok-count.count c.loop-rest.rest.now, taken _ _ _ _ c.in_ok-count.ensures.bound so_far.1, Appends-trans _ _ _ _ _ so_far.2 c.in_ok-count.ensures.bytes);
-      later = omega arith;
+      good = c.in_ok-count.ensures.good ∙ c.loop-rest.invariant.good;
     }

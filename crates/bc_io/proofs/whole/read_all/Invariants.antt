@@ -1,5 +1,5 @@
--- What came is what the source gave up, and its count has not fallen.
-use Rattle.std.proofs.Common.{◌≤◌, ◌+◌, ◌-◌, length}
+-- What came is what the source gave up, and its count stays.
+use Rattle.std.proofs.Common.{◌≡◌, ◌≤◌, ◌+◌, ◌-◌, length}
 use Rattle.std.specs.Io.KnownBytes.{Consumes}
 use Rattle.bc_io.proofs.whole.read_all.Given as goal
 
@@ -7,7 +7,7 @@ abbrev pub invariant-loop-chunk : goal.invariant-loop-chunk
 invariant-loop-chunk g l = record {
   bytes : Consumes (g.S.Source.left l.initial.src) (g.S.Source.left l.src) l.all.items;
   within : length l.all.items ≤ l.limit + 1;
-  later : g.S.Source.faults l.initial.src ≤ g.S.Source.faults l.src;
+  good : g.S.Source.faults l.src ≡ g.S.Source.faults l.initial.src;
 }
 
 abbrev pub decreases-loop-chunk : goal.decreases-loop-chunk
