@@ -4,3 +4,6 @@ pub mod Nexts
 pub mod Orders
 pub mod PlainSteps
 pub mod PlainOrders
+pub mod TokenGaps
+pub mod TokenStreams
+pub mod TokenOrders

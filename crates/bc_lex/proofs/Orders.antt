@@ -1,10 +1,11 @@
 -- Where the next line and the next word stand, and what stands before them.
-use Rattle.std.proofs.Common.{◌≡◌, ◌<◌, ◌≤◌, ℕ, suc, ◌+◌, ◌-◌, min, Bool, true, false, ◌&&◌, nat_lt, List, [], ◌∷◌, ◌++◌, length, take, drop, Option, Some, None, Ok, Err, refl, sym, ap, ◌∙◌, subst, inl, inr, arith, add-one}
+use Rattle.std.proofs.Common.{◌≡◌, ◌<◌, ◌≤◌, ℕ, suc, ◌+◌, ◌-◌, min, Bool, true, false, nat_lt, List, [], ◌∷◌, ◌++◌, length, take, drop, Option, Some, None, Ok, Err, refl, sym, ap, ◌∙◌, subst, inl, inr, arith, add-one}
+use Rattle.std.proofs.lemmas.Bool.{and_parts}
 use Rattle.std.proofs.lemmas.List.{drop-drop, length-take, length-drop, take-append-drop}
 use Rattle.bc_num.specs.Tokens.{is_letter}
 use Rattle.bc_num.specs.Numbers.{is_number}
 use Rattle.bc_num.specs.Lines.{is_line_end}
-use Rattle.bc_num.specs.Words.{is_blank, is_open, is_close, is_stop, is_gap, closes_comment, are_blanks, capital, blanks, length_behind, begins_word}
+use Rattle.bc_num.specs.Words.{is_line_blank, is_open, is_close, is_stop, is_gap, closes_comment, are_blanks, capital, blanks, length_behind, begins_word}
 use Rattle.bc_num.proofs.NumberFronts.{front_is_number, number_length-le}
 use Rattle.bc_lex.specs.Places.{LinePlace, WordPlace}
 use Rattle.bc_lex.specs.Lines.{ALine, line_length, after_line, line_in, after_in}
@@ -12,14 +13,6 @@ use Rattle.bc_lex.specs.GWords.{AWord, gap, gap_of, one_more, comment, found, st
 use Rattle.bc_lex.specs.Order.{is_one_line, IsLineEnd, LineStands, LinesStandInOrder, WordStands, WordsStandInOrder, is_words_end, WordsEnd, BreaksAt, WordsBreak}
 use Rattle.bc_lex.specs.declared.gwords.Front.TheVariants.{Nothing, Bad, Item}
 use Rattle.bc_lex.proofs.Nexts.{drop-min}
-
-pub left-of : (a b : Bool) → (a && b) ≡ true → a ≡ true
-left-of true b h = refl
-left-of false b h = h
-
-pub right-of : (a b : Bool) → (a && b) ≡ true → b ≡ true
-right-of true b h = h
-right-of false b h = cc
 
 lt-is : (n m : ℕ) → nat_lt n m ≡ true → n < m
 lt-is n m h = grind arith
@@ -103,20 +96,20 @@ Closes (Some n) bs = (n ≤ length bs) × (closes_comment (take n bs) ≡ true)
 gap-none : (bs : List ℕ) → Gap bs 0
 gap-none bs = record { within = omega arith; is = refl }
 
-gap-blank : (b : ℕ) (bs : List ℕ) (n : ℕ) → is_blank b ≡ true → Gap bs n → Gap (b ∷ bs) (n + 1)
+gap-blank : (b : ℕ) (bs : List ℕ) (n : ℕ) → is_line_blank b ≡ true → Gap bs n → Gap (b ∷ bs) (n + 1)
 gap-blank b bs n e g =
     let h : n ≤ length bs = g.within in
     let is : is_gap (b ∷ take n bs) ≡ true = rw e g.is in
     record { within = omega arith; is = ap is_gap (take-more b n bs) ∙ is }
 
-gap-open : (b : ℕ) (bs : List ℕ) (o : Option ℕ) → is_blank b ≡ false → is_open b ≡ true → Closes o bs → Gap (b ∷ bs) (gap_of o)
+gap-open : (b : ℕ) (bs : List ℕ) (o : Option ℕ) → is_line_blank b ≡ false → is_open b ≡ true → Closes o bs → Gap (b ∷ bs) (gap_of o)
 gap-open b bs None e f c = gap-none (b ∷ bs)
 gap-open b bs (Some n) e f c =
     let h : n ≤ length bs = c.0 in
     let is : is_gap (b ∷ take n bs) ≡ true = rw (e, f) c.1 in
     record { within = omega arith; is = ap is_gap (take-more b n bs) ∙ is }
 
-gap-at : (b : ℕ) (bs : List ℕ) (blank op : Bool) → is_blank b ≡ blank → is_open b ≡ op → Gap bs (gap bs) → Closes (comment bs) bs → Gap (b ∷ bs) (gap (b ∷ bs))
+gap-at : (b : ℕ) (bs : List ℕ) (blank op : Bool) → is_line_blank b ≡ blank → is_open b ≡ op → Gap bs (gap bs) → Closes (comment bs) bs → Gap (b ∷ bs) (gap (b ∷ bs))
 gap-at b bs true op e f g c =
     let n : gap bs + 1 ≡ gap (b ∷ bs) = rw e refl in
     subst (Gap (b ∷ bs)) n (gap-blank b bs (gap bs) e g)
@@ -151,7 +144,7 @@ closes-at b bs false e g c =
 mutual
   gap-is : (bs : List ℕ) → Gap bs (gap bs)
   gap-is [] = gap-none []
-  gap-is (b ∷ bs) = gap-at b bs (is_blank b) (is_open b) refl refl (gap-is bs) (closes-is bs)
+  gap-is (b ∷ bs) = gap-at b bs (is_line_blank b) (is_open b) refl refl (gap-is bs) (closes-is bs)
 
   closes-is : (bs : List ℕ) → Closes (comment bs) bs
   closes-is [] = tt
@@ -162,7 +155,7 @@ pub record Blanks (bs : List ℕ) (n : ℕ) : Type 0 where
   pub within : n ≤ length bs
   pub are : are_blanks (take n bs) ≡ true
 
-blanks-at : (b : ℕ) (bs : List ℕ) (blank : Bool) → is_blank b ≡ blank → Blanks bs (blanks bs) → Blanks (b ∷ bs) (blanks (b ∷ bs))
+blanks-at : (b : ℕ) (bs : List ℕ) (blank : Bool) → is_line_blank b ≡ blank → Blanks bs (blanks bs) → Blanks (b ∷ bs) (blanks (b ∷ bs))
 blanks-at b bs true e s =
     let n : blanks bs + 1 ≡ blanks (b ∷ bs) = rw e refl in
     let h : blanks bs ≤ length bs = s.within in
@@ -174,7 +167,7 @@ blanks-at b bs false e s =
 
 pub blanks-is : (bs : List ℕ) → Blanks bs (blanks bs)
 blanks-is [] = record { within = omega arith; are = refl }
-blanks-is (b ∷ bs) = blanks-at b bs (is_blank b) refl (blanks-is bs)
+blanks-is (b ∷ bs) = blanks-at b bs (is_line_blank b) refl (blanks-is bs)
 
 -- ---- words
 
@@ -213,7 +206,7 @@ word-stands p w b cs e f begins h =
     let before : length (take (gap bs) bs) ≡ gap bs = length-take (gap bs) bs ∙ omega arith in
     let few : k ≤ length cs = s.within in
     let spaces : length (take k cs) ≡ k = length-take k cs ∙ omega arith in
-    let some : 0 < n = lt-is 0 n (right-of (is_letter b) _ begins) in
+    let some : 0 < n = lt-is 0 n (and_parts (is_letter b) _ begins).1 in
     let whole : n ≤ length (drop k cs) = number_length-le (drop k cs) in
     let size : length w.number ≡ n = ap length number ∙ length-take n (drop k cs) ∙ omega arith in
     record {
@@ -222,7 +215,7 @@ word-stands p w b cs e f begins h =
       spaces = take k cs;
       bytes = behind-gap p ∙ ap (λ r. take (gap bs) bs ++ r) e ∙ ap (λ r. take (gap bs) bs ++ b ∷ r) (sym spaced);
       is_before = g.is;
-      is_letter = left-of (is_letter b) _ begins;
+      is_letter = (and_parts (is_letter b) _ begins).0;
       capital = ap (λ (w : AWord). w.letter) is;
       are_spaces = s.are;
       is_number = ap is_number number ∙ front_is_number (drop k cs) some;

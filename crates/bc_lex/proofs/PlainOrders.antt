@@ -1,8 +1,9 @@
 -- Where the next word between blanks stands, and what stands before it.
-use Rattle.std.proofs.Common.{◌≡◌, ◌≤◌, ℕ, ◌+◌, Bool, true, false, ◌&&◌, nat_eq, List, [], ◌∷◌, ◌++◌, length, take, drop, Some, None, refl, sym, ap, ◌∙◌, subst, arith, add-one}
+use Rattle.std.proofs.Common.{◌≡◌, ◌≤◌, ℕ, ◌+◌, Bool, true, false, nat_eq, List, [], ◌∷◌, ◌++◌, length, take, drop, Some, None, refl, sym, ap, ◌∙◌, subst, arith, add-one}
+use Rattle.std.proofs.lemmas.Bool.{and_from}
 use Rattle.std.proofs.lemmas.List.{drop-drop, length-take, take-append-drop}
 use Rattle.std.specs.List.{list_all}
-use Rattle.bc_num.specs.Words.{is_blank, blanks}
+use Rattle.bc_num.specs.Words.{is_line_blank, blanks}
 use Rattle.bc_lex.specs.Places.{WordPlace}
 use Rattle.bc_lex.specs.Words.{PlainWord, is_comment, is_part, goes_on, word_length, plain_start, plain_at, next_plain, after_plain_at, after_plain}
 use Rattle.bc_lex.specs.Order.{is_whole_word, PlainStands, PlainStandInOrder, is_plain_end, PlainEnd}
@@ -40,9 +41,6 @@ begins-at b bs false e h =
 begins : (bs : List ℕ) → nat_eq (word_length bs) 0 ≡ false → goes_on (take (word_length bs) bs) ≡ true
 begins [] h = cc
 begins (b ∷ bs) h = begins-at b bs (is_part b) refl h
-
-both : (a b : Bool) → a ≡ true → b ≡ true → (a && b) ≡ true
-both a b h k = rw (h, k) refl
 
 -- the line from p on: blanks, and what stands where the next word begins
 behind-blanks : (p : WordPlace) → drop p.at p.text ≡ take (blanks (drop p.at p.text)) (drop p.at p.text) ++ drop (plain_start p) p.text
@@ -82,7 +80,7 @@ stands p w rest false r h e =
       before = take (blanks bs) bs;
       bytes = behind-blanks p ∙ ap (λ x. take (blanks bs) bs ++ x) (sym digits);
       are_before = s.are;
-      is_word = ap is_whole_word text ∙ both (goes_on (take n rest)) (list_all is_part (take n rest)) (begins rest h) k.are;
+      is_word = ap is_whole_word text ∙ and_from (goes_on (take n rest)) (list_all is_part (take n rest)) (begins rest h) k.are;
       is_whole = ap goes_on behind ∙ k.whole;
       from = from ∙ omega arith;
       behind = at ∙ omega arith;
@@ -101,9 +99,9 @@ plain_stand_in_order p w e = stands p w (drop (plain_start p) p.text) _ refl ref
 -- a word begins there, or the words end
 abbrev Leads : List ℕ → Type 0
 Leads [] = Unit {0}
-Leads (b ∷ bs) = is_blank b ≡ false
+Leads (b ∷ bs) = is_line_blank b ≡ false
 
-leads-at : (b : ℕ) (bs : List ℕ) (blank : Bool) → is_blank b ≡ blank → Leads (drop (blanks bs) bs) → Leads (drop (blanks (b ∷ bs)) (b ∷ bs))
+leads-at : (b : ℕ) (bs : List ℕ) (blank : Bool) → is_line_blank b ≡ blank → Leads (drop (blanks bs) bs) → Leads (drop (blanks (b ∷ bs)) (b ∷ bs))
 leads-at b bs true e h =
     let n : blanks (b ∷ bs) ≡ blanks bs + 1 = rw e refl in
     let behind : drop (blanks bs + 1) (b ∷ bs) ≡ drop (blanks bs) bs = rw add-one refl in
@@ -115,9 +113,9 @@ leads-at b bs false e h =
 
 leads : (bs : List ℕ) → Leads (drop (blanks bs) bs)
 leads [] = tt
-leads (b ∷ bs) = leads-at b bs (is_blank b) refl (leads bs)
+leads (b ∷ bs) = leads-at b bs (is_line_blank b) refl (leads bs)
 
-end-byte : (b : ℕ) (bs : List ℕ) (comment : Bool) → is_comment b ≡ comment → is_blank b ≡ false → nat_eq (word_length (b ∷ bs)) 0 ≡ true → is_comment b ≡ true
+end-byte : (b : ℕ) (bs : List ℕ) (comment : Bool) → is_comment b ≡ comment → is_line_blank b ≡ false → nat_eq (word_length (b ∷ bs)) 0 ≡ true → is_comment b ≡ true
 end-byte b bs true c e h = c
 end-byte b bs false c e h =
     let part : is_part b ≡ true = rw (c, e) refl in

@@ -2,7 +2,7 @@
 use Rattle.std.proofs.Common.{◌≡◌, ℕ, ◌+◌, Bool, true, false, not, ◌||◌, nat_eq, List, [], ◌∷◌, take, drop, Some, None, refl, sym, ap, ◌∙◌, arith, add-one, if◌then◌else◌}
 use Rattle.std.proofs.lemmas.List.{drop-drop}
 use Rattle.bc_num.specs.Lines.{put_before}
-use Rattle.bc_num.specs.Words.{is_blank, blanks}
+use Rattle.bc_num.specs.Words.{is_line_blank, blanks}
 use Rattle.bc_lex.specs.Places.{WordPlace}
 use Rattle.bc_lex.specs.Words.{PlainWord, is_comment, is_part, goes_on, with_byte, words_of, word_length, plain_start, plain_at, next_plain, after_plain_at, after_plain}
 use Rattle.bc_lex.specs.Left.{plain_left, plain_then, NextPlainIsFirst, AllPlainAreLeft}
@@ -39,8 +39,8 @@ one-more b bs false h e = rw (h, stops bs h) refl
 pub words-cut : (bs : List ℕ) → goes_on bs ≡ true → words_of bs ≡ cut_at (word_length bs) bs
 words-cut [] h = cc
 words-cut (b ∷ bs) h =
-    let comment : is_comment b ≡ false = neither-left (is_comment b) (is_blank b) h in
-    let blank : is_blank b ≡ false = neither-right (is_comment b) (is_blank b) h in
+    let comment : is_comment b ≡ false = neither-left (is_comment b) (is_line_blank b) h in
+    let blank : is_line_blank b ≡ false = neither-right (is_comment b) (is_line_blank b) h in
     let here : words_of (b ∷ bs) ≡ with_byte b bs (words_of bs) = rw (comment, blank) refl in
     let count : word_length (b ∷ bs) ≡ word_length bs + 1 = rw h refl in
     here ∙ one-more b bs (goes_on bs) refl (words-cut bs) ∙ ap (λ n. cut_at n (b ∷ bs)) (sym count)
@@ -49,7 +49,7 @@ words-cut (b ∷ bs) h =
 abbrev pub first_cut : ℕ → List ℕ → List (List ℕ)
 first_cut n bs = if nat_eq n 0 then [] else cut_at n bs
 
-blank-is-no-comment : (b : ℕ) → is_blank b ≡ true → is_comment b ≡ false
+blank-is-no-comment : (b : ℕ) → is_line_blank b ≡ true → is_comment b ≡ false
 blank-is-no-comment b h = grind arith
 
 none-left : (n b : ℕ) (bs : List ℕ) → is_comment b ≡ true → n ≡ 0 → words_of (b ∷ bs) ≡ first_cut n (b ∷ bs)
@@ -58,7 +58,7 @@ none-left n b bs c h = rw (c, h) refl
 some-left : (m b : ℕ) (bs : List ℕ) (ws : List (List ℕ)) → ws ≡ cut_at (m + 1) (b ∷ bs) → ws ≡ first_cut (m + 1) (b ∷ bs)
 some-left m b bs ws e = let more : nat_eq (m + 1) 0 ≡ false = grind arith in rw more e
 
-no-blank : (b : ℕ) (bs : List ℕ) (comment : Bool) → is_comment b ≡ comment → is_blank b ≡ false → words_of (b ∷ bs) ≡ first_cut (word_length (b ∷ bs)) (b ∷ bs)
+no-blank : (b : ℕ) (bs : List ℕ) (comment : Bool) → is_comment b ≡ comment → is_line_blank b ≡ false → words_of (b ∷ bs) ≡ first_cut (word_length (b ∷ bs)) (b ∷ bs)
 no-blank b bs true c h =
     let none : word_length (b ∷ bs) ≡ 0 = rw c refl in none-left (word_length (b ∷ bs)) b bs c none
 no-blank b bs false c h =
@@ -70,7 +70,7 @@ no-blank b bs false c h =
 abbrev pub led : List ℕ → List (List ℕ)
 led bs = first_cut (word_length bs) bs
 
-at-byte : (b : ℕ) (bs : List ℕ) (blank : Bool) → is_blank b ≡ blank → words_of bs ≡ led (drop (blanks bs) bs)
+at-byte : (b : ℕ) (bs : List ℕ) (blank : Bool) → is_line_blank b ≡ blank → words_of bs ≡ led (drop (blanks bs) bs)
     → words_of (b ∷ bs) ≡ led (drop (blanks (b ∷ bs)) (b ∷ bs))
 at-byte b bs true h e =
     let here : words_of (b ∷ bs) ≡ words_of bs = rw (blank-is-no-comment b h, h) refl in
@@ -86,7 +86,7 @@ at-byte b bs false h e =
 -- the words of bytes, behind the blanks at their front
 pub words-led : (bs : List ℕ) → words_of bs ≡ led (drop (blanks bs) bs)
 words-led [] = refl
-words-led (b ∷ bs) = at-byte b bs (is_blank b) refl (words-led bs)
+words-led (b ∷ bs) = at-byte b bs (is_line_blank b) refl (words-led bs)
 
 plain-then : (p : WordPlace) (n : ℕ) (none : Bool) → nat_eq n 0 ≡ none
     → first_cut n (drop (plain_start p) p.text) ≡ plain_then (plain_at p n) (plain_left (after_plain_at p n))

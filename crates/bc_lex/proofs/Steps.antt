@@ -4,7 +4,7 @@ use Rattle.std.proofs.Math.Seq.{drop-nil}
 use Rattle.bc_num.specs.Lines.{lines, put_before, is_line_end}
 use Rattle.bc_lex.specs.Lines.{line_length}
 use Rattle.bc_num.specs.Tokens.{is_letter}
-use Rattle.bc_num.specs.Words.{Words, ended, broken, word, words, words_behind_comment, is_blank, is_open, is_close, is_stop, begins_word, capital, blanks, length_behind, number_behind}
+use Rattle.bc_num.specs.Words.{Words, ended, broken, word, words, words_behind_comment, is_line_blank, is_open, is_close, is_stop, begins_word, capital, blanks, length_behind, number_behind}
 use Rattle.bc_lex.specs.GWords.{gap, gap_of, one_more, comment, found}
 use Rattle.bc_lex.specs.declared.gwords.Front.{Front}
 use Rattle.bc_lex.specs.declared.gwords.Front.TheVariants.{Nothing, Bad, Item}
@@ -85,7 +85,7 @@ at-front b bs true begins hs hb = rw hs refl
 at-front b bs false false hs hb = rw (hs, hb) refl
 at-front b bs false true hs hb = rw (hs, hb) (begun (capital b) b (blanks bs) (length_behind bs) bs)
 
-at-byte : (b : ℕ) (bs : List ℕ) (blank op : Bool) → is_blank b ≡ blank → is_open b ≡ op
+at-byte : (b : ℕ) (bs : List ℕ) (blank op : Bool) → is_line_blank b ≡ blank → is_open b ≡ op
     → words 0 bs ≡ follow_at (gap bs) bs → Behind (comment bs) bs → words 0 (b ∷ bs) ≡ follow_at (gap (b ∷ bs)) (b ∷ bs)
 at-byte b bs true op hb ho e c = rw hb (e ∙ sym (follow-more (gap bs) b bs))
 at-byte b bs false true hb ho e c = rw (hb, ho) (at-open b bs (comment bs) ho c)

@@ -1,6 +1,6 @@
 -- What the next word at a place of a contour line is, and the place behind it.
 use Rattle.std.specs.Prelude.{ℕ, ◌+◌, ◌≤◌, List, [], ◌∷◌, length, take, drop, Option, Some, None, Result, Ok, Err, if◌then◌else◌}
-use Rattle.bc_num.specs.Words.{is_blank, is_open, is_close, is_stop, is_ignored, capital, blanks, length_behind, begins_word}
+use Rattle.bc_num.specs.Words.{is_line_blank, is_open, is_close, is_stop, is_ignored, capital, blanks, length_behind, begins_word}
 use Rattle.bc_lex.specs.Places.{WordPlace}
 use Rattle.bc_lex.specs.Lines.{ALine}
 use Rattle.bc_lex.specs.declared.gwords.Front.{Front}
@@ -21,7 +21,7 @@ abbrev mutual
   -- how many bytes of blanks and whole comments stand at the front
   pub gap : List ℕ → ℕ
   gap [] = 0
-  gap (b ∷ bs) = if is_blank b then gap bs + 1 else (if is_open b then gap_of (comment bs) else 0)
+  gap (b ∷ bs) = if is_line_blank b then gap bs + 1 else (if is_open b then gap_of (comment bs) else 0)
 
   -- how many bytes are left of a comment and of the gap behind it, where something ends the comment
   pub comment : List ℕ → Option ℕ

@@ -4,3 +4,6 @@ pub mod Words
 pub mod GWords
 pub mod Left
 pub mod Order
+pub mod Tokens
+pub mod Stream
+pub mod TokenOrder

@@ -1,4 +1,4 @@
--- The places between the lines of a text, and between the words of a line.
+-- The places between the lines of a text, between the words of a line, and between the tokens of a text.
 use Rattle.std.specs.Prelude.{ℕ, List}
 
 -- a place in a text, behind `number` lines: `at` bytes of it came
@@ -12,4 +12,11 @@ pub record WordPlace : Type 0 where
   pub line : ℕ
   pub text : List ℕ
   pub at : ℕ
+  pub nth : ℕ
+
+-- a place in a text: `at` bytes of it came, it is in the line of this number, and behind `nth` tokens
+pub record TokenPlace : Type 0 where
+  pub text : List ℕ
+  pub at : ℕ
+  pub line : ℕ
   pub nth : ℕ

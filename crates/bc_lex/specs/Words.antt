@@ -2,7 +2,7 @@
 -- word at a place of a line is, and the place behind it.
 use Rattle.std.specs.Prelude.{ℕ, ◌+◌, Bool, false, not, ◌||◌, nat_eq, List, [], ◌∷◌, take, drop, Option, Some, None, if◌then◌else◌}
 use Rattle.bc_num.specs.Lines.{put_before}
-use Rattle.bc_num.specs.Words.{is_blank, blanks}
+use Rattle.bc_num.specs.Words.{is_line_blank, blanks}
 use Rattle.bc_lex.specs.Places.{WordPlace}
 use Rattle.bc_lex.specs.Lines.{ALine}
 use Rattle.bc_lex.specs.declared.words.Word.{Word}
@@ -13,7 +13,7 @@ is_comment b = nat_eq b 35
 
 -- a byte of a word
 abbrev pub is_part : ℕ → Bool
-is_part b = not (is_comment b || is_blank b)
+is_part b = not (is_comment b || is_line_blank b)
 
 -- a word begins the bytes, or goes on in them
 abbrev pub goes_on : List ℕ → Bool
@@ -27,7 +27,7 @@ with_byte b bs ws = if goes_on bs then put_before b ws else (b ∷ []) ∷ ws
 -- the words of a line
 abbrev pub words_of : List ℕ → List (List ℕ)
 words_of [] = []
-words_of (b ∷ bs) = if is_comment b then [] else (if is_blank b then words_of bs else with_byte b bs (words_of bs))
+words_of (b ∷ bs) = if is_comment b then [] else (if is_line_blank b then words_of bs else with_byte b bs (words_of bs))
 
 -- ---- one after another
 

@@ -1,6 +1,6 @@
 ghost use Rattle.std.specs.Prelude.{◌≡◌, ◌-◌, ◌<◌, ◌≤◌, ◌^◌, length, IfOk, IfSome};
 ghost use Rattle.bc_num.specs.Tokens.{is_letter};
-ghost use Rattle.bc_num.specs.Words.{is_blank, is_ignored, capital, blanks};
+ghost use Rattle.bc_num.specs.Words.{is_line_blank, is_ignored, capital, blanks};
 ghost use Rattle.bc_lex.specs.Lines.{line};
 ghost use Rattle.bc_lex.specs.GWords.{gap, found, IsWithin, line_start, next_word, after_word, seen};
 
@@ -62,12 +62,12 @@ impl<'a> Model for GWords<'a> {
 
 /// Whether a byte is a blank: space, tab or CR.
 pub fn blank_at(b: u8) -> bool
-    ensures { result ≡ is_blank b }
+    ensures { result ≡ is_line_blank b }
 {
     b == b' ' || b == b'\t' || b == b'\r'
 }
 
-fn letter_at(b: u8) -> bool
+pub fn letter_at(b: u8) -> bool
     ensures { result ≡ is_letter b }
 {
     (b >= b'A' && b <= b'Z') || (b >= b'a' && b <= b'z')

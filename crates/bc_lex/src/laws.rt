@@ -1,5 +1,7 @@
 ghost use Rattle.bc_lex.specs.Left.{NextLineIsFirst, NextWordIsFirst, AllWordsAreLeft, NextPlainIsFirst, AllPlainAreLeft};
 ghost use Rattle.bc_lex.specs.Order.{LinesStandInOrder, LinesEnd, WordsStandInOrder, WordsEnd, WordsBreak, BreaksAgain, PlainStandInOrder, PlainEnd};
+ghost use Rattle.bc_lex.specs.Stream.{NextTokenIsFirst, AllTokensAreLeft, StreamIsTokens};
+ghost use Rattle.bc_lex.specs.TokenOrder.{TokensStandInOrder, TokensEnd, TokensBreak, TokensBreakAgain};
 
 /// The lines that come one after another are the lines of the text.
 pub fn lines_law()
@@ -38,4 +40,20 @@ pub fn plain_words_law()
 pub fn plain_order_law()
     ensures order { PlainStandInOrder }
     ensures end { PlainEnd }
+{}
+
+/// The tokens that come one after another are the tokens of the text.
+pub fn tokens_law()
+    ensures next { NextTokenIsFirst }
+    ensures all { AllTokensAreLeft }
+    ensures texts { StreamIsTokens }
+{}
+
+/// Tokens stand in order and do not overlap, and between them stand blanks and comments alone. No token comes exactly where
+/// nothing else is left, and bytes that begin no token are answered again.
+pub fn token_order_law()
+    ensures order { TokensStandInOrder }
+    ensures end { TokensEnd }
+    ensures bad { TokensBreak }
+    ensures again { TokensBreakAgain }
 {}

@@ -65,6 +65,14 @@ impl<'a> Lines<'a> {
         self.number
     }
 
+    /// Where the next line begins in the text.
+    pub fn place(&self) -> usize
+        ensures value { result ≡ self.now.at }
+        ensures within { result ≤ length self.now.text }
+    {
+        self.at
+    }
+
     /// The next line, and `None` exactly at the end of the text. An empty piece behind the last LF is no line.
     pub fn next(&mut self) -> Option<Line<'a>>
         ensures answer { option_map line result ≡ next_line self.old }

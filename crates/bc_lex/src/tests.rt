@@ -131,3 +131,72 @@ fn words_between_blanks(rt: HostRuntime) -> Result<(), Fail> {
     }
     Ok(())
 }
+
+// A text, its tokens by their line, place, kind and bytes, and the line of bytes that begin no token.
+type Piece<'a> = (u32, usize, Kind, &'a [u8]);
+
+const PIECES: [(&[u8], &[Piece<'static>], Option<u32>); 8] = [
+    (b"", &[], None),
+    (b" \t\r\n// (a)\n //", &[], None),
+    (
+        b"cube([1,-2]);",
+        &[
+            (1, 0, Kind::Name, b"cube"),
+            (1, 4, Kind::Mark, b"("),
+            (1, 5, Kind::Mark, b"["),
+            (1, 6, Kind::Number, b"1"),
+            (1, 7, Kind::Mark, b","),
+            (1, 8, Kind::Number, b"-2"),
+            (1, 10, Kind::Mark, b"]"),
+            (1, 11, Kind::Mark, b")"),
+            (1, 12, Kind::Mark, b";"),
+        ],
+        None,
+    ),
+    (
+        b"r_2 = // one\n\n007a",
+        &[
+            (1, 0, Kind::Name, b"r_2"),
+            (1, 4, Kind::Mark, b"="),
+            (3, 14, Kind::Number, b"007"),
+            (3, 17, Kind::Name, b"a"),
+        ],
+        None,
+    ),
+    (b"{\n-\n}", &[(1, 0, Kind::Mark, b"{")], Some(2)),
+    (b"1.5", &[(1, 0, Kind::Number, b"1")], Some(1)),
+    (b"a /b", &[(1, 0, Kind::Name, b"a")], Some(1)),
+    (b"_a", &[], Some(1)),
+];
+
+#[test]
+fn tokens_of_texts(rt: HostRuntime) -> Result<(), Fail> {
+    for (text, wants, broken) in PIECES {
+        assert!(rt; text.len() < 100);
+        let mut tokens = Tokens::new(text);
+        let mut nth: u32 = 0;
+        for (line, from, kind, bytes) in wants {
+            nth = nth.saturating_add(1);
+            match tokens.next() {
+                Ok(Some(token)) => {
+                    assert_eq!(rt; (token.line, token.nth, token.from), (*line, nth, *from));
+                    assert_eq!(rt; token.kind, *kind);
+                    assert_eq!(rt; token.text, *bytes);
+                }
+                _ => assert!(rt; false, "token {nth} is missing"),
+            }
+        }
+        for _ in 0..2 {
+            match (tokens.next(), broken) {
+                (Ok(None), None) => {}
+                (Err(bad), Some(line)) => {
+                    let nth = nth.saturating_add(1);
+                    assert_eq!(rt; bad, BadAt { line, nth });
+                }
+                _ => assert!(rt; false, "the other end"),
+            }
+        }
+        assert_eq!(rt; tokens.nth(), nth);
+    }
+    Ok(())
+}
