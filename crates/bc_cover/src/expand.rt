@@ -4,38 +4,41 @@ ghost use Rattle.bc_cover.specs.Masks.{places_below};
 ghost use Rattle.bc_cover.specs.Covers.{Holds};
 ghost use Rattle.bc_cover.specs.Steps.{IsKept, IsPrime};
 
-use crate::words::{first_alike, has_bit, low_bits, take_out};
+use crate::choice::{drop_kept_out, idle_bit, near_masks};
+use crate::rows::{Kept, all_bits, mark_needed, rows_of, set_aside};
+use crate::words::{has_bit, take_out};
 use crate::{Blocks, Term};
 use bc_num::Memory;
 use std::alloc::Global;
 
-/// The bits of a mask that together keep the outside masks out.
-#[derive(Drop)]
-pub struct Kept {
-    /// The places of these bits, as a mask.
-    pub bits: u64,
-    /// At each of these places the place of an outside mask that would come in without the bit.
-    pub witnesses: [usize; 64],
-}
-
-/// Drops bits below `n` in ascending order, each if that lets no outside mask in.
-pub fn kept_bits(mask: u64, outside: &[u64], n: u32) -> Kept
+/// The bits of the mask that together keep the outside masks out, as `needed`. Of the others one after the other is dropped,
+/// first the one that keeps out most of the masks in `left`, which no term holds yet. `Memory` where there is no room.
+pub fn kept_bits(
+    alloc: Global,
+    mask: u64,
+    left: &[u64],
+    outside: &[u64],
+    n: u32,
+) -> Result<Kept, Memory>
     requires few { n ≤ 64 }
     requires mask_below { mask < 2 ^ n }
     requires outside_below { All (λ other. other < 2 ^ n) outside.now }
     requires apart { All (λ other. other ≢ mask) outside.now }
-    ensures { IsKept outside.now mask n n result.bits result.witnesses }
+    ensures { IfOk result (λ kept. IsKept outside.now mask n kept.needed kept.witnesses) }
 {
-    let mut bits = low_bits(n);
-    let mut witnesses = [0usize; 64];
-    for i in 0..n {
-        let fewer = take_out(bits, i);
-        match first_alike(outside, mask, fewer) {
-            Some(place) => witnesses[i as usize] = place,
-            None => bits = fewer,
+    let mut rows = rows_of(alloc, outside, mask)?;
+    let mut near = near_masks(alloc, left, mask)?;
+    let mut kept = all_bits(n);
+    loop {
+        mark_needed(&mut kept, rows.as_slice());
+        set_aside(&mut rows, kept.needed);
+        if rows.is_empty() {
+            return Ok(kept);
         }
+        drop_kept_out(&mut near, kept.needed);
+        let i = idle_bit(near.as_slice(), kept.bits, kept.bits ^ kept.needed);
+        kept.bits = take_out(kept.bits, i);
     }
-    Kept { bits, witnesses }
 }
 
 // Adds the witness of each of the bits, in ascending order.
@@ -51,12 +54,12 @@ fn add_blocks(blocks: &mut Blocks, witnesses: &[usize; 64], bits: u64, n: u32) -
     Ok(())
 }
 
-/// A term that holds the mask and no outside mask, and without each of its literals would hold one. Whether the mask at
-/// `place`, which is its `own` for now, is held by no other term is left open. `Memory` where there is no room.
+/// A term that holds the mask and no outside mask, and without each of its literals would hold one. It holds what it can of
+/// the masks in `left`. Its `own` is still to be found. `Memory` where there is no room.
 pub fn term_of(
     alloc: Global,
-    place: usize,
     mask: u64,
+    left: &[u64],
     outside: &[u64],
     n: u32,
 ) -> Result<Term, Memory>
@@ -67,16 +70,16 @@ pub fn term_of(
     ensures prime { IfOk result (IsPrime outside.now n) }
     ensures holds { IfOk result (λ t. Holds t mask) }
 {
-    let kept = kept_bits(mask, outside, n);
-    let pos = mask & kept.bits;
-    let neg = pos ^ kept.bits;
+    let kept = kept_bits(alloc, mask, left, outside, n)?;
+    let pos = mask & kept.needed;
+    let neg = pos ^ kept.needed;
     let mut blocks = Blocks::new(alloc);
     add_blocks(&mut blocks, &kept.witnesses, pos, n)?;
     add_blocks(&mut blocks, &kept.witnesses, neg, n)?;
     Ok(Term {
         pos,
         neg,
-        own: place,
+        own: 0,
         blocks,
     })
 }
