@@ -212,7 +212,7 @@ child_same : (s t : Shape) (ss ts : Shapes) (r r' : List (List ℕ)) → s ≡ t
 child_same s t ss ts r r' e f = record { shapes = ap (λ (x : Shape). child x ss) e ∙ ap (child t) f.shapes; rest = f.rest }
 
 mutual
-  one : (s t : Shape) (r r' : List (List ℕ)) → AllLeaves IsLeaf s → AllLeaves IsLeaf t → words s ++ r ≡ words t ++ r' → Same s t r r'
+  pub one : (s t : Shape) (r r' : List (List ℕ)) → AllLeaves IsLeaf s → AllLeaves IsLeaf t → words s ++ r ≡ words t ++ r' → Same s t r r'
   one (leaf l) (leaf m) r r' f g e = same_leaf l m r r' f g e
   one (union ks) (union ls) r r' f g e = union_same ks ls r r' (all ks ls r r' f g (between (words_all ks) (words_all ls) r r' (ap (drop 4) e)))
   one (meet ks) (meet ls) r r' f g e = meet_same ks ls r r' (all ks ls r r' f g (between (words_all ks) (words_all ls) r r' (ap (drop 4) e)))
