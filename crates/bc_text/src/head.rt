@@ -1,119 +1,120 @@
 //! The two first lines, and the lines of notes.
-ghost use Rattle.std.specs.Prelude.{◌≡◌, ◌++◌, Some, OnOk};
+ghost use Rattle.std.specs.Prelude.{◌≡◌, ◌++◌, Some};
 ghost use Rattle.bc_text.specs.declared.note.Head.TheVariants as heads;
 ghost use Rattle.bc_text.specs.declared.note.Spot.TheVariants as spots;
-ghost use Rattle.bc_text.specs.Growing.{GrewBy};
+ghost use Rattle.bc_io.specs.Growing.{GrewBy};
 ghost use Rattle.bc_text.specs.Layout.{spot_text, mark_text, note_line, box_line, head_text};
 
-use crate::piece::{put, put_indent, put_next, put_number};
+use crate::indent::put_indent;
 use crate::{Head, Mark, Spot};
-use bc_num::{Box2, Box3, Memory, P2, P3};
+use bc_io::{Pen, Sink};
+use bc_num::{Box2, Box3, P2, P3};
 
-pub fn put_head(text: &mut Vec<u8>, head: &Head) -> Result<(), Memory>
-    ensures { OnOk result (GrewBy text.old.items text.new.items (head_text head.now)) }
+pub fn put_head<K: Sink>(pen: &mut Pen<K>, head: &Head)
+    ensures { GrewBy K.held K.faults pen.old pen.new (head_text head.now) }
 {
     match head {
-        Head::Contour(b) => put_flat_head(text, b),
-        Head::Solid(b) => put_solid_head(text, b),
+        Head::Contour(b) => put_flat_head(pen, b),
+        Head::Solid(b) => put_solid_head(pen, b),
     }
 }
 
-fn put_flat_head(text: &mut Vec<u8>, b: &Box2) -> Result<(), Memory>
-    ensures { OnOk result (GrewBy text.old.items text.new.items (head_text (heads.Contour b.now))) }
+fn put_flat_head<K: Sink>(pen: &mut Pen<K>, b: &Box2)
+    ensures { GrewBy K.held K.faults pen.old pen.new (head_text (heads.Contour b.now)) }
 {
-    put(text, b"// bcsg 1 contour\n")?;
-    put_flat_box(text, b)?;
-    put(text, b"\n")
+    pen.put(b"// bcsg 1 contour\n");
+    put_flat_box(pen, b);
+    pen.put(b"\n");
 }
 
-fn put_flat_box(text: &mut Vec<u8>, b: &Box2) -> Result<(), Memory>
-    ensures { OnOk result (GrewBy text.old.items text.new.items (box_line (heads.Contour b.now))) }
+fn put_flat_box<K: Sink>(pen: &mut Pen<K>, b: &Box2)
+    ensures { GrewBy K.held K.faults pen.old pen.new (box_line (heads.Contour b.now)) }
 {
-    put(text, b"// box ")?;
-    put_number(text, b.x0)?;
-    put_next(text, b" ", b.y0)?;
-    put_next(text, b" ", b.x1)?;
-    put_next(text, b" ", b.y1)
+    pen.put(b"// box ");
+    pen.put_number(b.x0);
+    pen.put_next(b" ", b.y0);
+    pen.put_next(b" ", b.x1);
+    pen.put_next(b" ", b.y1);
 }
 
-fn put_solid_head(text: &mut Vec<u8>, b: &Box3) -> Result<(), Memory>
-    ensures { OnOk result (GrewBy text.old.items text.new.items (head_text (heads.Solid b.now))) }
+fn put_solid_head<K: Sink>(pen: &mut Pen<K>, b: &Box3)
+    ensures { GrewBy K.held K.faults pen.old pen.new (head_text (heads.Solid b.now)) }
 {
-    put(text, b"// bcsg 1 solid\n")?;
-    put_solid_box(text, b)?;
-    put(text, b"\n")
+    pen.put(b"// bcsg 1 solid\n");
+    put_solid_box(pen, b);
+    pen.put(b"\n");
 }
 
-fn put_solid_box(text: &mut Vec<u8>, b: &Box3) -> Result<(), Memory>
-    ensures { OnOk result (GrewBy text.old.items text.new.items (box_line (heads.Solid b.now))) }
+fn put_solid_box<K: Sink>(pen: &mut Pen<K>, b: &Box3)
+    ensures { GrewBy K.held K.faults pen.old pen.new (box_line (heads.Solid b.now)) }
 {
-    put(text, b"// box ")?;
-    put_number(text, b.x0)?;
-    put_next(text, b" ", b.y0)?;
-    put_next(text, b" ", b.z0)?;
-    put_next(text, b" ", b.x1)?;
-    put_next(text, b" ", b.y1)?;
-    put_next(text, b" ", b.z1)
+    pen.put(b"// box ");
+    pen.put_number(b.x0);
+    pen.put_next(b" ", b.y0);
+    pen.put_next(b" ", b.z0);
+    pen.put_next(b" ", b.x1);
+    pen.put_next(b" ", b.y1);
+    pen.put_next(b" ", b.z1);
 }
 
 /// The line of a node's note, where it has one.
-pub fn put_note(text: &mut Vec<u8>, depth: usize, mark: Option<Mark>) -> Result<(), Memory>
-    ensures { OnOk result (GrewBy text.old.items text.new.items (note_line depth mark)) }
+pub fn put_note<K: Sink>(pen: &mut Pen<K>, depth: usize, mark: Option<Mark>)
+    ensures { GrewBy K.held K.faults pen.old pen.new (note_line depth mark) }
 {
     match mark {
-        None => Ok(()),
-        Some(mark) => put_mark_line(text, depth, mark),
+        None => {}
+        Some(mark) => put_mark_line(pen, depth, mark),
     }
 }
 
-fn put_mark_line(text: &mut Vec<u8>, depth: usize, mark: Mark) -> Result<(), Memory>
-    ensures { OnOk result (GrewBy text.old.items text.new.items (note_line depth (Some mark))) }
+fn put_mark_line<K: Sink>(pen: &mut Pen<K>, depth: usize, mark: Mark)
+    ensures { GrewBy K.held K.faults pen.old pen.new (note_line depth (Some mark)) }
 {
-    put_indent(text, depth)?;
-    put(text, b"// ")?;
-    put_mark(text, mark)?;
-    put(text, b"\n")
+    put_indent(pen, depth);
+    pen.put(b"// ");
+    put_mark(pen, mark);
+    pen.put(b"\n");
 }
 
-fn put_mark(text: &mut Vec<u8>, mark: Mark) -> Result<(), Memory>
-    ensures { OnOk result (GrewBy text.old.items text.new.items (mark_text mark)) }
+fn put_mark<K: Sink>(pen: &mut Pen<K>, mark: Mark)
+    ensures { GrewBy K.held K.faults pen.old pen.new (mark_text mark) }
 {
     match mark {
         Mark::Own(spot) => {
-            put(text, b"own ")?;
-            put_spot(text, spot)
+            pen.put(b"own ");
+            put_spot(pen, spot);
         }
-        Mark::OwnUndecided => put(text, b"own undecided"),
+        Mark::OwnUndecided => pen.put(b"own undecided"),
         Mark::Out(spot) => {
-            put(text, b"out ")?;
-            put_spot(text, spot)
+            pen.put(b"out ");
+            put_spot(pen, spot);
         }
-        Mark::OutUndecided => put(text, b"out undecided"),
+        Mark::OutUndecided => pen.put(b"out undecided"),
     }
 }
 
-fn put_spot(text: &mut Vec<u8>, spot: Spot) -> Result<(), Memory>
-    ensures { OnOk result (GrewBy text.old.items text.new.items (spot_text spot)) }
+fn put_spot<K: Sink>(pen: &mut Pen<K>, spot: Spot)
+    ensures { GrewBy K.held K.faults pen.old pen.new (spot_text spot) }
 {
     match spot {
-        Spot::Flat(p) => put_flat_point(text, &p),
-        Spot::Solid(p) => put_solid_point(text, &p),
+        Spot::Flat(p) => put_flat_point(pen, &p),
+        Spot::Solid(p) => put_solid_point(pen, &p),
     }
 }
 
-fn put_flat_point(text: &mut Vec<u8>, p: &P2) -> Result<(), Memory>
-    ensures { OnOk result (GrewBy text.old.items text.new.items (spot_text (spots.Flat p.now))) }
+fn put_flat_point<K: Sink>(pen: &mut Pen<K>, p: &P2)
+    ensures { GrewBy K.held K.faults pen.old pen.new (spot_text (spots.Flat p.now)) }
 {
-    put_number(text, p.x)?;
-    put_next(text, b" ", p.y)?;
-    put_next(text, b" ", p.w)
+    pen.put_number(p.x);
+    pen.put_next(b" ", p.y);
+    pen.put_next(b" ", p.w);
 }
 
-fn put_solid_point(text: &mut Vec<u8>, p: &P3) -> Result<(), Memory>
-    ensures { OnOk result (GrewBy text.old.items text.new.items (spot_text (spots.Solid p.now))) }
+fn put_solid_point<K: Sink>(pen: &mut Pen<K>, p: &P3)
+    ensures { GrewBy K.held K.faults pen.old pen.new (spot_text (spots.Solid p.now)) }
 {
-    put_number(text, p.x)?;
-    put_next(text, b" ", p.y)?;
-    put_next(text, b" ", p.z)?;
-    put_next(text, b" ", p.w)
+    pen.put_number(p.x);
+    pen.put_next(b" ", p.y);
+    pen.put_next(b" ", p.z);
+    pen.put_next(b" ", p.w);
 }

@@ -1,4 +1,4 @@
-ghost use Rattle.std.specs.Prelude.{◌≤◌, IfOk};
+ghost use Rattle.std.specs.Prelude.{◌≤◌, ◌<◌, IfOk};
 ghost use Rattle.bc_tree.specs.Shape.{shape, AllLeaves, depth};
 ghost use Rattle.bc_tree.specs.Leaves.{IsLeaf};
 ghost use Rattle.bc_text.specs.Numbered.{Ascend, EndEarly};
@@ -240,9 +240,10 @@ fn a_disc(rt: HostRuntime) -> Result<(), Fail> {
     Ok(())
 }
 
-#[test]
-fn a_tetrahedron(rt: HostRuntime) -> Result<(), Fail> {
-    let alloc = rt.alloc();
+// The text of a tetrahedron with its notes, through a buffer of this size.
+fn tetrahedron_through(alloc: Global, size: usize) -> Result<MemSink, &'static str>
+    requires { 0 < size }
+{
     let t = tetrahedron(alloc)?;
     let head = Head::Solid(Box3 {
         x0: -1,
@@ -274,7 +275,17 @@ fn a_tetrahedron(rt: HostRuntime) -> Result<(), Fail> {
             mark: Mark::Out(solid(1, 1, 1, 1)?),
         },
     ];
-    let out = text_of(alloc, &t, &head, &notes)?;
+    text_through(alloc, &t, &head, &notes, size)
+}
+
+#[test]
+fn a_tetrahedron_through_any_buffer(rt: HostRuntime) -> Result<(), Fail> {
+    let alloc = rt.alloc();
+    let out = tetrahedron_through(alloc, 1)?;
+    assert_eq!(rt; out.held(), TETRAHEDRON.as_bytes());
+    let out = tetrahedron_through(alloc, 7)?;
+    assert_eq!(rt; out.held(), TETRAHEDRON.as_bytes());
+    let out = tetrahedron_through(alloc, 4096)?;
     assert_eq!(rt; out.held(), TETRAHEDRON.as_bytes());
     Ok(())
 }
@@ -321,5 +332,52 @@ fn a_contour_with_an_arc(rt: HostRuntime) -> Result<(), Fail> {
     ];
     let out = text_of(alloc, &t, &head, &notes)?;
     assert_eq!(rt; out.held(), BULGE.as_bytes());
+    Ok(())
+}
+
+// The text of a tree in a sink, through a buffer of this size.
+fn text_through(
+    alloc: Global,
+    t: &Tree,
+    head: &Head,
+    notes: &[Note],
+    size: usize,
+) -> Result<MemSink, &'static str>
+    requires leaves { AllLeaves IsLeaf (shape t.now) }
+    requires nested { depth (shape t.now) ≤ 64 }
+    requires ascend { Ascend notes.now }
+    requires early { EndEarly notes.now }
+    requires room { 0 < size }
+{
+    let mut buf = vec![in alloc; 0u8; size].map_err(|_| "memory")?;
+    let mut out = MemSink::new(alloc, 4096, 4096, Vec::new(alloc)).map_err(|_| "memory")?;
+    print_with(t, head, notes, &mut buf, &mut out).map_err(|_| "write")?;
+    Ok(out)
+}
+
+const DISC_INSIDE: &str = "    union() {
+      difference() {
+        intersection() {
+          translate([-6,-6,0]) square([12,12]);
+          translate([0,0,0]) circle(r=sqrt(25));
+        }
+      }
+    }
+";
+
+#[test]
+fn a_tree_at_a_depth(rt: HostRuntime) -> Result<(), Fail> {
+    let alloc = rt.alloc();
+    let t = disc(alloc)?;
+    let mut buf = [0u8; 5];
+    let mut out = MemSink::new(alloc, 4096, 4096, Vec::new(alloc)).map_err(|_| "memory")?;
+    assert!(rt; put_tree(&t, 2, &mut buf, &mut out).is_ok());
+    assert_eq!(rt; out.held(), DISC_INSIDE.as_bytes());
+    // the third write fails
+    let mut fails = Vec::new(alloc);
+    fails.push(3u64)?;
+    let mut out = MemSink::new(alloc, 4096, 4096, fails).map_err(|_| "memory")?;
+    assert!(rt; put_tree(&t, 2, &mut buf, &mut out).is_err());
+    assert_eq!(rt; out.held(), b"    union(".as_slice());
     Ok(())
 }
