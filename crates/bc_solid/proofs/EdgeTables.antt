@@ -3,7 +3,7 @@ use Rattle.std.proofs.Common.{◌≡◌, ℕ, zero, suc, ◌+◌, ◌≤◌, ◌
 use Rattle.std.specs.Prelude.{All, slice_get, Some, filter, unwrap_or}
 use Rattle.std.specs.List.{list_any}
 use Rattle.std.specs.Map.{keys_of, lookup}
-use Rattle.std.proofs.lemmas.Bool.{and_parts}
+use Rattle.std.proofs.lemmas.Bool.{and_parts, and_from, both_ways, cases_Bool}
 use Rattle.std.proofs.lemmas.Int.{ints}
 use Rattle.std.proofs.lemmas.List.{take-append-le, take_all}
 use Rattle.std.proofs.lemmas.List.Elements.{All-head, All-tail, All-push, All-weaker, All-take, All-same, filter-append}
@@ -14,8 +14,8 @@ use Rattle.bc_solid.specs.declared.edge.Edge.{Edge}
 use Rattle.bc_solid.specs.Meshes.{Edge3, is_same3, joins, occurrences}
 use Rattle.bc_solid.specs.MeshFaults.{IsLess3, IsFirstOddEdge}
 use Rattle.bc_solid.specs.EdgeTables.{edge_of, is_same_edge, IsSorted, count_of, with_key, CountsOnce, is_known, IsFirstSeen, IsEdgeTable, IsFirstOdd}
-use Rattle.bc_solid.proofs.Lists.{cases, never, all_at}
-use Rattle.bc_solid.proofs.Joins.{both, same_yes, same_true, joins-cases, joins-same, occurrences-same}
+use Rattle.bc_solid.proofs.Lists.{all_at}
+use Rattle.bc_solid.proofs.Joins.{same_yes, same_true, joins-cases, joins-same, occurrences-same}
 
 -- ---- keys
 
@@ -29,7 +29,7 @@ same_edge k q h =
 
 edge_same : (k q : Edge) → edge_of k ≡ edge_of q → is_same_edge k q ≡ true
 edge_same k q e =
-    both (is_same3 k.from q.from) (is_same3 k.to q.to) (same_yes k.from q.from (ap (λ (x : Edge3). x.from) e)) (same_yes k.to q.to (ap (λ (x : Edge3). x.to) e))
+    and_from (is_same3 k.from q.from) (is_same3 k.to q.to) (same_yes k.from q.from (ap (λ (x : Edge3). x.from) e)) (same_yes k.to q.to (ap (λ (x : Edge3). x.to) e))
 
 less_turned : (a b : V3) → IsLess3 a b → IsLess3 b a → ⊥
 less_turned a b (inl p) (inl q) = omega (arith, ints)
@@ -52,11 +52,11 @@ key_same k q sk sq h =
 
 key_joins : (k q : Edge) (e : Edge3) → IsSorted k → IsSorted q → joins (edge_of k) e ≡ true → is_same_edge k q ≡ joins (edge_of q) e
 key_joins k q e sk sq h =
-    elim (cases (is_same_edge k q)) [
+    elim (cases_Bool (is_same_edge k q)) [
       | inl t ↦ t ∙ sym (subst (λ (x : Edge). joins (edge_of x) e ≡ true) (same_edge k q t) h)
       | inr f ↦
-          elim (cases (joins (edge_of q) e)) [
-            | inl j ↦ never (is_same_edge k q) (key_same k q sk sq (joins-same (edge_of q) (edge_of k) e h ∙ j)) f
+          elim (cases_Bool (joins (edge_of q) e)) [
+            | inl j ↦ absurd (both_ways (is_same_edge k q) f (key_same k q sk sq (joins-same (edge_of q) (edge_of k) e h ∙ j)))
             | inr g ↦ f ∙ sym g
           ]
     ]
@@ -67,7 +67,7 @@ key_joins k q e sk sq h =
 pub keys-inserted : (es : List (Edge × ℕ)) (k : Edge) (n : ℕ) → keys_of (insert_entry is_same_edge es k n) ≡ with_key (keys_of es) k
 keys-inserted [] k n = refl
 keys-inserted (e ∷ es) k n =
-    elim (cases (is_same_edge k e.0)) [
+    elim (cases_Bool (is_same_edge k e.0)) [
       | inl t ↦
           ap (λ b. keys_of (if b then (e.0, n) ∷ es else e ∷ insert_entry is_same_edge es k n)) t
           ∙ sym (ap (λ b. if b || list_any (is_same_edge k) (keys_of es) then e.0 ∷ keys_of es else e.0 ∷ keys_of es ++ k ∷ []) t)
@@ -85,7 +85,7 @@ keys-inserted (e ∷ es) k n =
 pub counts-inserted : (k q : Edge) (old new : List (Edge × ℕ)) (n : ℕ) → n ≡ count_of k old → lookup (is_same_edge q) new ≡ cond (is_same_edge k q) (Some (n + 1)) (lookup (is_same_edge q) old)
     → count_of q new ≡ count_of q old + (if is_same_edge k q then 1 else 0)
 counts-inserted k q old new n e h =
-    elim (cases (is_same_edge k q)) [
+    elim (cases_Bool (is_same_edge k q)) [
       | inl t ↦
           ap (λ o. unwrap_or o 0) h ∙ ap (λ b. unwrap_or (cond b (Some (n + 1)) (lookup (is_same_edge q) old)) 0) t
           ∙ ap (λ m. m + 1) (e ∙ ap (λ (x : Edge). count_of x old) (same_edge k q t)) ∙ sym (ap (λ b. count_of q old + (if b then 1 else 0)) t)
@@ -107,7 +107,7 @@ grows ks k h = ap (λ b. if b then ks else ks ++ k ∷ []) h
 
 all_with : (P : Edge → Type 0) (ks : List Edge) (k : Edge) → All P ks → P k → All P (with_key ks k)
 all_with P ks k a p =
-    elim (cases (list_any (is_same_edge k) ks)) [
+    elim (cases_Bool (list_any (is_same_edge k) ks)) [
       | inl t ↦ All-same P (with_key ks k) ks (stays ks k t) a
       | inr f ↦ All-same P (with_key ks k) (ks ++ k ∷ []) (grows ks k f) (All-push P ks k a p)
     ]
@@ -115,7 +115,7 @@ all_with P ks k a p =
 known_left : (ks : List Edge) (k : Edge) (e : Edge3) → is_known ks e ≡ true → is_known (ks ++ k ∷ []) e ≡ true
 known_left [] k e h = cc
 known_left (x ∷ xs) k e h =
-    elim (cases (joins (edge_of x) e)) [
+    elim (cases_Bool (joins (edge_of x) e)) [
       | inl t ↦ ap (λ b. b || is_known (xs ++ k ∷ []) e) t
       | inr f ↦ ap (λ b. b || is_known (xs ++ k ∷ []) e) f ∙ known_left xs k e (sym (ap (λ b. b || is_known xs e) f) ∙ h)
     ]
@@ -123,7 +123,7 @@ known_left (x ∷ xs) k e h =
 known_last : (ks : List Edge) (k : Edge) (e : Edge3) → joins (edge_of k) e ≡ true → is_known (ks ++ k ∷ []) e ≡ true
 known_last [] k e h = ap (λ b. b || false) h
 known_last (x ∷ xs) k e h =
-    elim (cases (joins (edge_of x) e)) [
+    elim (cases_Bool (joins (edge_of x) e)) [
       | inl t ↦ ap (λ b. b || is_known (xs ++ k ∷ []) e) t
       | inr f ↦ ap (λ b. b || is_known (xs ++ k ∷ []) e) f ∙ known_last xs k e h
     ]
@@ -131,10 +131,10 @@ known_last (x ∷ xs) k e h =
 known_there : (ks : List Edge) (k : Edge) (e : Edge3) → joins (edge_of k) e ≡ true → list_any (is_same_edge k) ks ≡ true → is_known ks e ≡ true
 known_there [] k e h l = cc
 known_there (x ∷ xs) k e h l =
-    elim (cases (is_same_edge k x)) [
+    elim (cases_Bool (is_same_edge k x)) [
       | inl t ↦ ap (λ b. b || is_known xs e) (subst (λ (y : Edge). joins (edge_of y) e ≡ true) (same_edge k x t) h)
       | inr f ↦
-          elim (cases (joins (edge_of x) e)) [
+          elim (cases_Bool (joins (edge_of x) e)) [
             | inl j ↦ ap (λ b. b || is_known xs e) j
             | inr g ↦ ap (λ b. b || is_known xs e) g ∙ known_there xs k e h (sym (ap (λ b. b || list_any (is_same_edge k) xs) f) ∙ l)
           ]
@@ -142,14 +142,14 @@ known_there (x ∷ xs) k e h l =
 
 known_with : (ks : List Edge) (k : Edge) (e : Edge3) → is_known ks e ≡ true → is_known (with_key ks k) e ≡ true
 known_with ks k e h =
-    elim (cases (list_any (is_same_edge k) ks)) [
+    elim (cases_Bool (list_any (is_same_edge k) ks)) [
       | inl t ↦ ap (λ (xs : List Edge). is_known xs e) (stays ks k t) ∙ h
       | inr f ↦ ap (λ (xs : List Edge). is_known xs e) (grows ks k f) ∙ known_left ks k e h
     ]
 
 known_own : (ks : List Edge) (k : Edge) (e : Edge3) → joins (edge_of k) e ≡ true → is_known (with_key ks k) e ≡ true
 known_own ks k e h =
-    elim (cases (list_any (is_same_edge k) ks)) [
+    elim (cases_Bool (list_any (is_same_edge k) ks)) [
       | inl t ↦ ap (λ (xs : List Edge). is_known xs e) (stays ks k t) ∙ known_there ks k e h t
       | inr f ↦ ap (λ (xs : List Edge). is_known xs e) (grows ks k f) ∙ known_last ks k e h
     ]
@@ -200,7 +200,7 @@ module _ (es : List Edge3) (e : Edge3) (k : Edge) (ks : List Edge) (known : All 
     (first : (i : ℕ) (q : Edge) → slice_get ks i ≡ Some q → IsFirstSeen es (take i ks) q) where
   first_with : (i : ℕ) (q : Edge) → slice_get (with_key ks k) i ≡ Some q → IsFirstSeen (es ++ e ∷ []) (take i (with_key ks k)) q
   first_with i q g =
-      elim (cases (list_any (is_same_edge k) ks)) [
+      elim (cases_Bool (list_any (is_same_edge k) ks)) [
         | inl t ↦
             first_longer es (take i ks) (take i (with_key ks k)) q e (ap (take i) (stays ks k t))
             (first i q (sym (ap (λ (xs : List Edge). slice_get xs i) (stays ks k t)) ∙ g))
@@ -254,7 +254,7 @@ even_count m n e f = omega (arith, e, f)
 known_key : (ks : List Edge) (e : Edge3) → is_known ks e ≡ true → (k : Edge) × (joins (edge_of k) e ≡ true) × ((P : Edge → Type 0) → All P ks → P k)
 known_key [] e h = cc
 known_key (x ∷ xs) e h =
-    elim (cases (joins (edge_of x) e)) [
+    elim (cases_Bool (joins (edge_of x) e)) [
       | inl t ↦ (x, t, λ P a. All-head P x xs a)
       | inr f ↦ let r = known_key xs e (sym (ap (λ b. b || is_known xs e) f) ∙ h) in (r.0, r.1, λ P a. r.2 P (All-tail P x xs a))
     ]
@@ -268,7 +268,7 @@ module _ (es : List Edge3) (entries : List (Edge × ℕ)) (t : IsEdgeTable es en
   found : (k : Edge3) (xs : List Edge3) → All (λ e. occurrences e es % 2 ≡ 0) xs → (occurrences k xs ≡ 0) ⊎ (occurrences k es % 2 ≡ 0)
   found k [] a = inl refl
   found k (x ∷ xs) a =
-      elim (cases (joins k x)) [
+      elim (cases_Bool (joins k x)) [
         | inl j ↦ inr (ap (λ n. n % 2) (occurrences-same k x es j) ∙ All-head (λ e. occurrences e es % 2 ≡ 0) x xs a)
         | inr f ↦
             elim (found k xs (All-tail (λ e. occurrences e es % 2 ≡ 0) x xs a)) [

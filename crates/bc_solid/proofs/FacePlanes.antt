@@ -11,7 +11,7 @@ use Rattle.bc_space.specs.PlanesThrough.{AreCollinear}
 use Rattle.bc_solid.specs.Meshes.{path}
 use Rattle.bc_solid.specs.Facets.{IsOnPlane, AreOnLine, IsSpanned}
 use Rattle.bc_solid.specs.FacePlanes.{IsFirstPlane, IsFirstOff, IsPlaneOf}
-use Rattle.bc_solid.specs.MeshFaults.{AreApart, IsBend}
+use Rattle.bc_solid.specs.MeshFaults.{HasNoTwins, IsBend}
 use Rattle.bc_solid.proofs.Lists.{contains_at, all_before}
 use Rattle.bc_solid.proofs.Collinear.{three_on_line, itself_on_line}
 use Rattle.bc_solid.proofs.Coplanar.{line_on_plane, on_one_plane}
@@ -19,12 +19,12 @@ use Rattle.bc_solid.proofs.Coplanar.{line_on_plane, on_one_plane}
 -- ---- faces on one line
 
 -- the first two corners of a face differ
-first_apart : (cs : List V3) (d : V3) → 1 < length cs → AreApart cs → get_or cs 0 d ≢ get_or cs 1 d
+first_apart : (cs : List V3) (d : V3) → 1 < length cs → HasNoTwins cs → get_or cs 0 d ≢ get_or cs 1 d
 first_apart [] d l h = absurd (omega arith)
 first_apart (a ∷ []) d l h = absurd (omega arith)
 first_apart (a ∷ b ∷ cs) d l h = All-head (λ e. e.from ≢ e.to) (record { from = a; to = b }) (path b cs a) h
 
-pub flat_face : (cs : List V3) (d : V3) → 1 < length cs → AreApart cs → All (AreCollinear (get_or cs 0 d) (get_or cs 1 d)) cs → AreOnLine cs
+pub flat_face : (cs : List V3) (d : V3) → 1 < length cs → HasNoTwins cs → All (AreCollinear (get_or cs 0 d) (get_or cs 1 d)) cs → AreOnLine cs
 flat_face cs d l apart h =
     All-weaker (AreCollinear (get_or cs 0 d) (get_or cs 1 d)) (λ p. All (λ q. All (AreCollinear p q) cs) cs)
     (λ p hp. All-weaker (AreCollinear (get_or cs 0 d) (get_or cs 1 d)) (λ q. All (AreCollinear p q) cs)
@@ -76,7 +76,7 @@ module _ (cs : List V3) (d : V3) (l : 1 < length cs) (h : Plane3) (f : IsFirstPl
   pub not_flat : AreOnLine cs → ⊥
   not_flat o = spanned_wide cs h spanned o
 
-  module _ (apart : AreApart cs) (k : ℕ) (o : IsFirstOff h cs k) where
+  module _ (apart : HasNoTwins cs) (k : ℕ) (o : IsFirstOff h cs k) where
     -- the corners before the third and the third itself are on the plane
     behind : f.at < k
     behind =

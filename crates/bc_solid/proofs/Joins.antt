@@ -1,20 +1,12 @@
 -- Edges that have the same ends.
 use Rattle.std.proofs.Common.{◌≡◌, Bool, true, false, ◌&&◌, ◌||◌, ◌⊎◌, inl, inr, List, length, refl, sym, ap, ◌∙◌}
 use Rattle.std.specs.Ordering.{int_eq}
-use Rattle.std.proofs.lemmas.Bool.{and_parts}
+use Rattle.std.proofs.lemmas.Bool.{and_parts, and_from, or_cases, cases_Bool}
 use Rattle.std.proofs.lemmas.Bool.Decides.{Decides-int_eq}
 use Rattle.std.proofs.lemmas.List.Elements.{filter_agree}
 use Rattle.bc_num.specs.declared.v3.V3.{V3}
 use Rattle.bc_num.proofs.Same.{v3_same}
 use Rattle.bc_solid.specs.Meshes.{Edge3, is_same3, joins, occurrences}
-use Rattle.bc_solid.proofs.Lists.{cases}
-
-pub both : (a b : Bool) → a ≡ true → b ≡ true → (a && b) ≡ true
-both a b h k = ap (λ x. x && b) h ∙ k
-
-pub either : (a b : Bool) → (a || b) ≡ true → (a ≡ true) ⊎ (b ≡ true)
-either true b h = inl refl
-either false b h = inr h
 
 or_comm : (a b : Bool) → (a || b) ≡ (b || a)
 or_comm true true = refl
@@ -24,8 +16,8 @@ or_comm false false = refl
 
 pub same_yes : (u v : V3) → u ≡ v → is_same3 u v ≡ true
 same_yes u v e =
-    both (int_eq u.x v.x) (int_eq u.y v.y && int_eq u.z v.z) ((Decides-int_eq u.x v.x).1 (ap (λ (t : V3). t.x) e))
-    (both (int_eq u.y v.y) (int_eq u.z v.z) ((Decides-int_eq u.y v.y).1 (ap (λ (t : V3). t.y) e)) ((Decides-int_eq u.z v.z).1 (ap (λ (t : V3). t.z) e)))
+    and_from (int_eq u.x v.x) (int_eq u.y v.y && int_eq u.z v.z) ((Decides-int_eq u.x v.x).1 (ap (λ (t : V3). t.x) e))
+    (and_from (int_eq u.y v.y) (int_eq u.z v.z) ((Decides-int_eq u.y v.y).1 (ap (λ (t : V3). t.y) e)) ((Decides-int_eq u.z v.z).1 (ap (λ (t : V3). t.z) e)))
 
 pub same_true : (u v : V3) → is_same3 u v ≡ true → u ≡ v
 same_true u v h =
@@ -41,7 +33,7 @@ edge k e f g = λ i. record { from = sym f i; to = sym g i }
 
 pub joins-cases : (k e : Edge3) → joins k e ≡ true → (e ≡ k) ⊎ (e ≡ flipped k)
 joins-cases k e h =
-    elim (either (is_same3 k.from e.from && is_same3 k.to e.to) (is_same3 k.from e.to && is_same3 k.to e.from) h) [
+    elim (or_cases (is_same3 k.from e.from && is_same3 k.to e.to) (is_same3 k.from e.to && is_same3 k.to e.from) h) [
       | inl x ↦
           let p = and_parts (is_same3 k.from e.from) (is_same3 k.to e.to) x in
           inl (edge k e (same_true k.from e.from p.0) (same_true k.to e.to p.1))
@@ -53,7 +45,7 @@ joins-cases k e h =
 pub joins-self : (k : Edge3) → joins k k ≡ true
 joins-self k =
     ap (λ b. b || is_same3 k.from k.to && is_same3 k.to k.from)
-    (both (is_same3 k.from k.from) (is_same3 k.to k.to) (same_yes k.from k.from refl) (same_yes k.to k.to refl))
+    (and_from (is_same3 k.from k.from) (is_same3 k.to k.to) (same_yes k.from k.from refl) (same_yes k.to k.to refl))
 
 joins-flipped : (z e : Edge3) → joins z (flipped e) ≡ joins z e
 joins-flipped z e = or_comm (is_same3 z.from e.to && is_same3 z.to e.from) (is_same3 z.from e.from && is_same3 z.to e.to)
@@ -71,10 +63,10 @@ joins-turn x y h = joins-same y x y h ∙ joins-self y
 
 joins-comm : (x y : Edge3) → joins x y ≡ joins y x
 joins-comm x y =
-    elim (cases (joins x y)) [
+    elim (cases_Bool (joins x y)) [
       | inl h ↦ h ∙ sym (joins-turn x y h)
       | inr h ↦
-          elim (cases (joins y x)) [
+          elim (cases_Bool (joins y x)) [
             | inl k ↦ joins-turn y x k ∙ sym k
             | inr k ↦ h ∙ sym k
           ]

@@ -9,7 +9,7 @@ use Rattle.bc_num.specs.declared.v3.V3.{V3}
 use Rattle.bc_solid.specs.declared.edge.Edge.{Edge}
 use Rattle.bc_solid.specs.declared.solid.Facet.{Facet as Stored}
 use Rattle.bc_solid.specs.Meshes.{edges, all_edges, corner_count, corner_at, corners_of}
-use Rattle.bc_solid.specs.Facets.{Facet, facet_of, outlines, IsClosedMesh, IsFacet, IsSolid, IsSound, AreEven}
+use Rattle.bc_solid.specs.Facets.{Facet, facet_of, outlines, IsClosedMesh, IsFacet, IsSolid, IsSoundFace, AreEven}
 use Rattle.bc_solid.specs.EdgeTables.{edge_of, count_of, IsEdgeTable, IsFirstOdd}
 use Rattle.bc_solid.specs.MeshFaults.{IsFirstOddEdge}
 use Rattle.bc_solid.proofs.Lists.{front_more}
@@ -92,7 +92,7 @@ module _ (fs : List Facet) (faces : List (List V3)) (es : List Edge) (a : All Is
   odd_edge entries r t o = first_odd_edge (all_edges faces) entries (counted entries t) r o
 
   pub closed : (entries : List (Edge × ℕ)) → IsEdgeTable (map edge_of es) entries → All (λ k. count_of k entries % 2 ≡ 0) (keys_of entries) → IsClosedMesh faces
-  closed entries t e = record { sound = subst (λ css. All IsSound css) h (all_sound fs a); even = all_even (all_edges faces) entries (counted entries t) e }
+  closed entries t e = record { sound = subst (λ css. All IsSoundFace css) h (all_sound fs a); even = all_even (all_edges faces) entries (counted entries t) e }
 
   pub solid : (entries : List (Edge × ℕ)) → IsEdgeTable (map edge_of es) entries → All (λ k. count_of k entries % 2 ≡ 0) (keys_of entries) → length fs ≤ 2 ^ 20 → corner_count faces ≤ 2 ^ 20 → IsSolid fs
   solid entries t e few_faces few_corners = record {

@@ -1,7 +1,7 @@
 pub mod Solids
 pub mod Faults
 pub mod Walks
-pub mod Checks
+pub mod ContourChecks
 pub mod Lists
 pub mod Rounds
 pub mod Joins
@@ -13,3 +13,4 @@ pub mod EdgeLists
 pub mod EdgeTables
 pub mod MeshFaults
 pub mod Kept
+mod Joined

@@ -1,16 +1,9 @@
 -- Lists by their places: what a front has, one more element, and what an element of a list is.
-use Rattle.std.proofs.Common.{◌≡◌, ℕ, zero, suc, ◌+◌, ◌<◌, ◌⊎◌, inl, inr, Bool, true, false, List, [], ◌∷◌, ◌++◌, take, arith, refl, sym, ap, ◌∙◌, subst}
+use Rattle.std.proofs.Common.{◌≡◌, ℕ, zero, suc, ◌+◌, ◌<◌, List, [], ◌∷◌, ◌++◌, take, arith, ap, ◌∙◌, subst}
 use Rattle.std.specs.Prelude.{All, Contains, slice_get, Some}
 use Rattle.std.proofs.lemmas.List.{take_more}
 use Rattle.std.proofs.lemmas.List.Elements.{All-head, All-tail, All-contains, All-same, All-push}
 use Rattle.std.proofs.lemmas.Option.{slice_get_within, get_or_from_slice_get, same_Some}
-
-pub cases : (x : Bool) → (x ≡ true) ⊎ (x ≡ false)
-cases true = inl refl
-cases false = inr refl
-
-pub never : {P : Type 0} (x : Bool) → x ≡ true → x ≡ false → P
-never x h k = let q : true ≡ false = sym h ∙ k in cc
 
 -- the element at a place is one of the list
 pub contains_at : {X : Type 0} (xs : List X) (i : ℕ) (x : X) → slice_get xs i ≡ Some x → Contains xs x

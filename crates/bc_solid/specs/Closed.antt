@@ -43,7 +43,7 @@ pub record AreClosed (contours : List (List Element)) : Type 0 where
   pub closed : All IsContour contours
   pub proper : All IsProper (joined contours)
 
--- the element's places have coordinates from -1023 to 1023
+-- the element's places have coordinates of an input
 abbrev pub AreNear : Element → Type 0
 AreNear (Edge a b) = AreCoords a × AreCoords b
 AreNear (Arc a b c ccw) = AreCoords a × AreCoords b × AreCoords c

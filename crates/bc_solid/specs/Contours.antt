@@ -3,21 +3,22 @@
 use Rattle.std.specs.Prelude.{◌≡◌, Bool, not, ◌&&◌, ◌||◌, nat_lt, List, [], ◌∷◌, All, ℤ, unsigned_abs}
 use Rattle.std.specs.Coded.{Coded-set, coded×, coded_ℤ, ×_prop, Π_prop, Unit-prop}
 use base.Stored.{coded_via}
+use Rattle.bc_num.specs.declared.coord.TheConstants.{MOST_COORD}
 use Rattle.bc_num.specs.declared.v2.V2.{V2}
 use Rattle.bc_num.specs.Measures.{is_same}
 use Rattle.bc_solid.specs.declared.element.Element.{Element}
 use Rattle.bc_solid.specs.declared.element.Element.TheVariants.{Edge, Arc}
 use Rattle.bc_solid.specs.Closed.{start_of, end_of, IsWay, IsContour}
 
--- past 1023 in size
+-- no coordinate of an input
 abbrev pub is_far : ℤ → Bool
-is_far v = nat_lt 1023 (unsigned_abs v)
+is_far v = nat_lt MOST_COORD (unsigned_abs v)
 
--- a coordinate is past 1023 in size
+-- one of the two is no coordinate
 abbrev pub is_far_point : V2 → Bool
 is_far_point p = is_far p.x || is_far p.y
 
--- coordinates within 1023, and no edge from a place to itself
+-- places with coordinates of an input, and no edge from a place to itself
 abbrev pub is_drawn : Element → Bool
 is_drawn (Edge a b) = not (is_far_point a) && (not (is_far_point b) && not (is_same a b))
 is_drawn (Arc a b c ccw) = not (is_far_point a) && (not (is_far_point b) && not (is_far_point c))

@@ -33,7 +33,7 @@ abbrev pub AreOnPlane : List V3 → Type 0
 AreOnPlane cs = (h : Plane3) × All (IsOnPlane h) cs
 
 -- a face that can stand in a closed mesh
-pub record IsSound (cs : List V3) : Type 0 where
+pub record IsSoundFace (cs : List V3) : Type 0 where
   -- no two neighbouring corners are the same, last and first included
   pub apart : All (λ e. e.from ≢ e.to) (edges cs)
   -- they are not all on one line
@@ -46,7 +46,7 @@ abbrev pub AreEven : List (List V3) → Type 0
 AreEven faces = (k : Edge3) → occurrences k (all_edges faces) % 2 ≡ 0
 
 pub record IsClosedMesh (faces : List (List V3)) : Type 0 where
-  pub sound : All IsSound faces
+  pub sound : All IsSoundFace faces
   pub even : AreEven faces
 
 -- the plane is the canonical one of three of the corners that are not on one line

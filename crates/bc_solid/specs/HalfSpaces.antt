@@ -9,25 +9,25 @@ use Rattle.bc_solid.specs.declared.element.Element.{Element}
 use Rattle.bc_solid.specs.declared.element.Element.TheVariants.{Edge, Arc}
 
 -- the line through two places, or the disc round a place with a squared radius
-pub data HalfSpace : Type 0 where
-  Line : V2 → V2 → HalfSpace
-  Disc : V2 → ℤ → HalfSpace
+pub data HalfSpace2 : Type 0 where
+  Line : V2 → V2 → HalfSpace2
+  Disc : V2 → ℤ → HalfSpace2
 
 -- p is on the boundary
-abbrev pub IsOn : HalfSpace → P2 → Type 0
+abbrev pub IsOn : HalfSpace2 → P2 → Type 0
 IsOn (Line a b) p = turn a b p ≡ pos 0
 IsOn (Disc c r2) p = square_distance c p ≡ r2 *ℤ (p.w *ℤ p.w)
 
 -- the disc of an arc, behind the line of its chord where its ends differ
-abbrev pub arc_half_spaces : V2 → V2 → V2 → List HalfSpace
+abbrev pub arc_half_spaces : V2 → V2 → V2 → List HalfSpace2
 arc_half_spaces a b c = if is_same a b then Disc c (square_between c a) ∷ [] else Line a b ∷ Disc c (square_between c a) ∷ []
 
-abbrev pub half_spaces_of : Element → List HalfSpace
+abbrev pub half_spaces_of : Element → List HalfSpace2
 half_spaces_of (Edge a b) = Line a b ∷ []
 half_spaces_of (Arc a b c ccw) = arc_half_spaces a b c
 
 -- those of all elements, in order
-abbrev pub half_spaces : List Element → List HalfSpace
+abbrev pub half_spaces : List Element → List HalfSpace2
 half_spaces [] = []
 half_spaces (e ∷ es) = half_spaces_of e ++ half_spaces es
 
@@ -47,7 +47,7 @@ above_by true left right = left
 above_by false left right = right
 
 -- p is Above: strictly left of the line, directed to the right or straight up; or strictly inside the disc
-abbrev pub is_above : HalfSpace → P2 → Bool
+abbrev pub is_above : HalfSpace2 → P2 → Bool
 is_above (Line a b) p = above_by (leads_forth a b) (int_lt (pos 0) (turn a b p)) (int_lt (turn a b p) (pos 0))
 is_above (Disc c r2) p = int_lt (square_distance c p) (r2 *ℤ (p.w *ℤ p.w))
 
@@ -57,7 +57,7 @@ AreAlike es p q = All (λ h. is_above h p ≡ is_above h q) (half_spaces es)
 
 -- ---- the same of the lines alone
 
-abbrev pub is_line : HalfSpace → Bool
+abbrev pub is_line : HalfSpace2 → Bool
 is_line (Line a b) = true
 is_line (Disc c r2) = false
 

@@ -4,7 +4,7 @@ use Rattle.std.specs.Prelude.{◌≡◌, ◌≢◌, ◌+◌, ◌<◌, ◌%◌, �
 use Rattle.std.specs.List.{All}
 use Rattle.bc_num.specs.declared.v3.V3.{V3}
 use Rattle.bc_solid.specs.Meshes.{Edge3, edges, all_edges, joins, occurrences}
-use Rattle.bc_solid.specs.Facets.{AreOnLine, AreOnPlane, IsSound}
+use Rattle.bc_solid.specs.Facets.{AreOnLine, AreOnPlane, IsSoundFace}
 use Rattle.bc_solid.specs.declared.mesh_fault.MeshFault.{MeshFault}
 use Rattle.bc_solid.specs.declared.mesh_fault.MeshFault.TheVariants.{TwinCorner, FlatFace, BentFace, OddEdge, Memory}
 
@@ -13,8 +13,8 @@ abbrev pub IsTwin : List V3 → ℕ → Type 0
 IsTwin cs k = (e : Edge3) × (slice_get (edges cs) k ≡ Some e) × (e.from ≡ e.to)
 
 -- no corner is the same as the next
-abbrev pub AreApart : List V3 → Type 0
-AreApart cs = All (λ e. e.from ≢ e.to) (edges cs)
+abbrev pub HasNoTwins : List V3 → Type 0
+HasNoTwins cs = All (λ e. e.from ≢ e.to) (edges cs)
 
 pub record IsFirstTwin (cs : List V3) (k : ℕ) : Type 0 where
   pub is : IsTwin cs k
@@ -29,8 +29,8 @@ pub record IsBend (cs : List V3) (k : ℕ) : Type 0 where
 -- the first fault of the face with number n
 abbrev pub IsFaceFault : ℕ → List V3 → MeshFault → Type 0
 IsFaceFault n cs (TwinCorner face place) = (face ≡ n) × IsFirstTwin cs place
-IsFaceFault n cs (FlatFace face) = (face ≡ n) × AreApart cs × AreOnLine cs
-IsFaceFault n cs (BentFace face place) = (face ≡ n) × AreApart cs × (AreOnLine cs → ⊥) × IsBend cs place
+IsFaceFault n cs (FlatFace face) = (face ≡ n) × HasNoTwins cs × AreOnLine cs
+IsFaceFault n cs (BentFace face place) = (face ≡ n) × HasNoTwins cs × (AreOnLine cs → ⊥) × IsBend cs place
 IsFaceFault n cs _ = ⊥
 
 -- a comes before b by x, then y, then z
@@ -52,6 +52,6 @@ pub record IsFirstOddEdge (es : List Edge3) (a b : V3) (n : ℕ) : Type 0 where
 
 -- f is the first fault of the mesh
 abbrev pub IsMeshFault : List (List V3) → MeshFault → Type 0
-IsMeshFault faces (OddEdge a b count) = All IsSound faces × IsFirstOddEdge (all_edges faces) a b count
+IsMeshFault faces (OddEdge a b count) = All IsSoundFace faces × IsFirstOddEdge (all_edges faces) a b count
 IsMeshFault faces Memory = ⊥
-IsMeshFault faces f = (n : ℕ) × (cs : List V3) × (slice_get faces n ≡ Some cs) × All IsSound (take n faces) × IsFaceFault n cs f
+IsMeshFault faces f = (n : ℕ) × (cs : List V3) × (slice_get faces n ≡ Some cs) × All IsSoundFace (take n faces) × IsFaceFault n cs f

@@ -24,7 +24,7 @@ corners_of points face = map (corner_at points) face
 abbrev pub faces_of : Mesh → List (List V3)
 faces_of mesh = map (corners_of mesh.points) mesh.faces
 
--- coordinates within 1023
+-- all three are coordinates of an input
 abbrev pub is_near_place : V3 → Bool
 is_near_place v = not (is_far v.x) && (not (is_far v.y) && not (is_far v.z))
 

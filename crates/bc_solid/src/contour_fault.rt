@@ -6,6 +6,7 @@ use thiserror::Error;
 
 /// The first fault of contours, by their arcs in order. `at` is the number of the arc among all elements, which count
 /// from 0, contour after contour.
+/// What counts for users is the line that the program writes (`docs/formats.md`), and not `Display`.
 #[derive(Debug, Drop, PartialEq, Eq, Clone, Copy, Error)]
 pub enum ContourFault {
     /// The centre is the start.

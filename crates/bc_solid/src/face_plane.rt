@@ -5,7 +5,7 @@ ghost use Rattle.bc_space.specs.Planes.{IsSizedPlane};
 ghost use Rattle.bc_space.specs.PlanesThrough.{AreCollinear, along_normal3};
 ghost use Rattle.bc_solid.specs.Facets.{IsOnPlane};
 ghost use Rattle.bc_solid.specs.FacePlanes.{IsFirstPlane, IsFirstOff, IsPlaneOf};
-ghost use Rattle.bc_solid.specs.MeshFaults.{AreApart, IsFaceFault};
+ghost use Rattle.bc_solid.specs.MeshFaults.{HasNoTwins, IsFaceFault};
 
 use crate::MeshFault;
 use bc_num::V3;
@@ -63,7 +63,7 @@ fn first_off(plane: &Plane3, corners: &[V3]) -> Option<usize>
 // The plane of the face with this number, whose neighbouring corners differ, or its fault.
 pub(crate) fn face_plane(face: u32, corners: &[V3]) -> Result<Plane3, MeshFault>
     requires near { All AreCoords3 corners.now }
-    requires apart { AreApart corners.now }
+    requires apart { HasNoTwins corners.now }
     requires few { length corners.now ≤ 2 ^ 20 }
     ensures plane { IfOk result (IsPlaneOf corners.now) }
     ensures fault { IfErr result (IsFaceFault face corners.now) }

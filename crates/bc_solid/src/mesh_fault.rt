@@ -6,6 +6,7 @@ use thiserror::Error;
 
 /// The first fault of a mesh: of its faces in order, and then of the edges of all faces in order. Faces and the corners of
 /// a face count from 0.
+/// What counts for users is the line that the program writes (`docs/formats.md`), and not `Display`.
 #[derive(Debug, Drop, PartialEq, Eq, Clone, Copy, Error)]
 pub enum MeshFault {
     /// The corner at `place` and the next one have the same coordinates; the first comes behind the last.

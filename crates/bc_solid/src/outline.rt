@@ -2,7 +2,7 @@ ghost use Rattle.std.specs.Prelude.{◌≡◌, true, length, nat_lt, All, IfOk, 
 ghost use Rattle.std.specs.List.{list_all};
 ghost use Rattle.bc_num.specs.Sizes.{AreCoords3};
 ghost use Rattle.bc_solid.specs.Meshes.{is_near_place, corners_of, is_same3};
-ghost use Rattle.bc_solid.specs.MeshFaults.{AreApart, IsFirstTwin};
+ghost use Rattle.bc_solid.specs.MeshFaults.{HasNoTwins, IsFirstTwin};
 
 use crate::Face;
 use crate::edge::edge_at;
@@ -31,7 +31,7 @@ fn is_same_place(a: V3, b: V3) -> bool
 
 // The first place whose corner is the same as the next.
 pub(crate) fn first_twin(corners: &[V3]) -> Option<usize>
-    ensures none { IsNone result → AreApart corners.now }
+    ensures none { IsNone result → HasNoTwins corners.now }
     ensures twin { IfSome result (IsFirstTwin corners.now) }
 {
     for place in 0..corners.len() {

@@ -3,7 +3,7 @@ use Rattle.bc_solid.specs.declared.solid.Facet.{Facet as Stored}
 use Rattle.bc_solid.specs.declared.mesh_fault.MeshFault.TheVariants.{OddEdge, Memory}
 use Rattle.bc_solid.specs.Meshes.{all_edges, faces_of}
 use Rattle.bc_solid.specs.RawMeshes.{mesh_of}
-use Rattle.bc_solid.specs.Facets.{facet_of, outlines, IsClosedMesh, IsSound}
+use Rattle.bc_solid.specs.Facets.{facet_of, outlines, IsClosedMesh, IsSoundFace}
 use Rattle.bc_solid.specs.EdgeTables.{edge_of}
 use Rattle.bc_solid.specs.MeshFaults.{IsMeshFault}
 use Rattle.bc_solid.proofs.Kept.{same_faces, apart, few_edges, odd_edge, closed, solid, few_outlines, few_facets}
@@ -34,7 +34,7 @@ pub returns-in-Some-clause-fault : goal.returns-in-Some-clause-fault
 returns-in-Some-clause-fault c = λ _.
     let s = same_faces c.as_slice.result.now c.args.raw.points c.as_slice-2.result.now c.args.raw.faces c.as_slice.ensures c.as_slice-2.ensures in
     let k = ap (map edge_of) c.as_slice-4.ensures ∙ c.in_ok-edges.ensures ∙ ap (λ (fs : List Stored). all_edges (outlines (map facet_of fs))) c.as_slice-3.ensures in (
-      subst (λ faces. All IsSound faces) (c.in_ok-facets.ensures.corners ∙ s) (all_sound (map facet_of c.in_ok-facets.facets) c.in_ok-facets.ensures.sound),
+      subst (λ faces. All IsSoundFace faces) (c.in_ok-facets.ensures.corners ∙ s) (all_sound (map facet_of c.in_ok-facets.facets) c.in_ok-facets.ensures.sound),
       odd_edge (map facet_of c.in_ok-facets.facets) (faces_of (mesh_of c.args.raw)) c.as_slice-4.result.now c.in_ok-facets.ensures.sound (c.in_ok-facets.ensures.corners ∙ s) k c.in_ok-table.table (c.in-Some.edge, c.in-Some.count)
           c.in_ok-table.ensures c.in-Some.ensures.odd,
     )
@@ -44,7 +44,7 @@ returns-in-Some-clause-open c = λ _.
     let s = same_faces c.as_slice.result.now c.args.raw.points c.as_slice-2.result.now c.args.raw.faces c.as_slice.ensures c.as_slice-2.ensures in
     let k = ap (map edge_of) c.as_slice-4.ensures ∙ c.in_ok-edges.ensures ∙ ap (λ (fs : List Stored). all_edges (outlines (map facet_of fs))) c.as_slice-3.ensures in
     not_closed (faces_of (mesh_of c.args.raw)) (OddEdge c.in-Some.edge.from c.in-Some.edge.to c.in-Some.count) (
-      subst (λ faces. All IsSound faces) (c.in_ok-facets.ensures.corners ∙ s) (all_sound (map facet_of c.in_ok-facets.facets) c.in_ok-facets.ensures.sound),
+      subst (λ faces. All IsSoundFace faces) (c.in_ok-facets.ensures.corners ∙ s) (all_sound (map facet_of c.in_ok-facets.facets) c.in_ok-facets.ensures.sound),
       odd_edge (map facet_of c.in_ok-facets.facets) (faces_of (mesh_of c.args.raw)) c.as_slice-4.result.now c.in_ok-facets.ensures.sound (c.in_ok-facets.ensures.corners ∙ s) k c.in_ok-table.table (c.in-Some.edge, c.in-Some.count)
           c.in_ok-table.ensures c.in-Some.ensures.odd,
     )

@@ -2,7 +2,7 @@ use Rattle.std.proofs.Common.{rules}
 use Rattle.bc_solid.specs.Closed.{joined}
 use Rattle.bc_solid.specs.ContourFaults.{IsFault}
 use Rattle.bc_solid.proofs.Walks.{all_whole, all_faults, near_next, fault_next, step, of_item}
-use Rattle.bc_solid.proofs.check.add_contours.Goals as goal
+use Rattle.bc_solid.proofs.contour_check.add_contours.Goals as goal
 
 pub returns : goal.returns
 returns c = record {

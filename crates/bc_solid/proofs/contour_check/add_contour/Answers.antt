@@ -1,5 +1,5 @@
 use Rattle.bc_solid.proofs.Walks.{end_whole, end_faults}
-use Rattle.bc_solid.proofs.check.add_contour.Goals as goal
+use Rattle.bc_solid.proofs.contour_check.add_contour.Goals as goal
 
 pub returns : goal.returns
 returns c = record {

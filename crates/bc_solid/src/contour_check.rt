@@ -1,25 +1,14 @@
 ghost use Rattle.std.specs.Prelude.{◌≡◌, ◌≢◌, ◌≤◌, ◌^◌, ◌+◌, ◌++◌, [], None, Some, length, OnOk, IfOk, IfErr, All};
 ghost use Rattle.std.specs.Ordering.{int_eq};
-ghost use Rattle.bc_num.specs.Measures.{square_between, is_same};
+ghost use Rattle.bc_num.specs.Measures.{is_same};
 ghost use Rattle.bc_num.specs.Sizes.{AreCoords};
 ghost use Rattle.bc_solid.specs.declared.contour_fault.ContourFault.TheVariants.{Memory};
 ghost use Rattle.bc_solid.specs.Closed.{joined, AreClosed, AreNear};
 ghost use Rattle.bc_solid.specs.ContourFaults.{arc_fault, fault_of, first_fault, IsFault};
 
-use crate::{ContourFault, Element, Profile, RawContours};
+use crate::{ContourFault, Element, Profile, RawContours, square_of};
 use bc_num::{List, V2};
 use std::alloc::Global;
-
-// The squared distance of two places.
-fn square_of(a: V2, b: V2) -> i64
-    requires a_near { AreCoords a }
-    requires b_near { AreCoords b }
-    ensures { result ≡ square_between a b }
-{
-    let x = b.x - a.x;
-    let y = b.y - a.y;
-    x * x + y * y
-}
 
 fn is_same_place(a: V2, b: V2) -> bool
     ensures { result ≡ is_same a b }

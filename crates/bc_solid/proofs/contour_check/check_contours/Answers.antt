@@ -1,8 +1,8 @@
 use Rattle.std.proofs.Common.{rules, ◌≢◌}
 use Rattle.bc_solid.specs.declared.contour_fault.ContourFault.TheVariants.{Memory}
 use Rattle.bc_solid.specs.Closed.{AreClosed}
-use Rattle.bc_solid.proofs.Checks.{whole, closed, profile, not_closed}
-use Rattle.bc_solid.proofs.check.check_contours.Goals as goal
+use Rattle.bc_solid.proofs.ContourChecks.{whole, closed, profile, not_closed}
+use Rattle.bc_solid.proofs.contour_check.check_contours.Goals as goal
 
 pub returns-in_err-add_contours-clause-open : goal.returns-in_err-add_contours-clause-open
 returns-in_err-add_contours-clause-open c =

@@ -1,20 +1,20 @@
 -- Contours as they are read are closed exactly where no arc is at fault.
-use Rattle.std.proofs.Common.{◌≡◌, ◌≢◌, ℕ, ◌+◌, ◌≤◌, ◌^◌, length, Bool, true, false, not, ◌&&◌, ◌||◌, ◌⊎◌, inl, inr, List, [], ◌∷◌, Some, None, Option, arith, refl, sym, ap, ◌∙◌}
+use Rattle.std.proofs.Common.{◌≡◌, ◌≢◌, ℕ, ◌+◌, ◌≤◌, ◌^◌, length, true, false, not, ◌&&◌, inl, inr, List, [], ◌∷◌, Some, None, Option, arith, refl, sym, ap, ◌∙◌}
 use Rattle.std.specs.Prelude.{All, nat_lt, unsigned_abs}
 use Rattle.std.specs.List.{list_all}
 use Rattle.std.specs.Ordering.{int_eq}
 use Rattle.std.proofs.lemmas.Int.{ints, by_lt_z}
-use Rattle.std.proofs.lemmas.Bool.{and_parts}
+use Rattle.std.proofs.lemmas.Bool.{and_parts, and_from, or_parts, not-true, cases_Bool}
 use Rattle.std.proofs.lemmas.Bool.Decides.{nat_tests, Decides-int_eq}
 use Rattle.std.proofs.lemmas.List.Elements.{All-cons, All-nil, All-head, All-tail, All-same}
 use lib.IntN.{ℤ, pos, ◌-ℤ◌}
 use lib.Signed.{◌<ℤ◌, ◌≤ℤ◌}
-use Rattle.bc_algebra.specs.Within.{IsWithin}
 use Rattle.bc_algebra.proofs.Ring.{ring, quotes, by_two}
 use Rattle.bc_algebra.proofs.Order.{squares_zero, nonneg-square, nonneg-add}
+use Rattle.bc_num.specs.declared.coord.TheConstants.{MOST_COORD}
 use Rattle.bc_num.specs.declared.v2.V2.{V2}
 use Rattle.bc_num.specs.Measures.{square_between, is_same}
-use Rattle.bc_num.specs.Sizes.{AreCoords}
+use Rattle.bc_num.specs.Sizes.{IsCoord, AreCoords}
 use Rattle.bc_solid.specs.declared.element.Element.{Element}
 use Rattle.bc_solid.specs.declared.element.Element.TheVariants.{Edge, Arc}
 use Rattle.bc_solid.specs.declared.contour_fault.ContourFault.{ContourFault}
@@ -26,35 +26,19 @@ use Rattle.bc_solid.proofs.Faults.{zero, even, skew}
 
 -- ---- tests
 
-cases : (x : Bool) → (x ≡ true) ⊎ (x ≡ false)
-cases true = inl refl
-cases false = inr refl
-
-neither : (x y : Bool) → not (x || y) ≡ true → (x ≡ false) × (y ≡ false)
-neither true y h = absurd (let q : false ≡ true = h in cc)
-neither false true h = absurd (let q : false ≡ true = h in cc)
-neither false false h = (refl, refl)
-
-pub is_false : (x : Bool) → not x ≡ true → x ≡ false
-is_false true h = absurd (let q : false ≡ true = h in cc)
-is_false false h = refl
-
-both : (x y : Bool) → x ≡ true → y ≡ true → (x && y) ≡ true
-both x y h k = rw (h, k) refl
-
 same_yes : (a b : V2) → a ≡ b → is_same a b ≡ true
-same_yes a b h = both (int_eq a.x b.x) (int_eq a.y b.y) ((Decides-int_eq a.x b.x).1 (ap (λ (t : V2). t.x) h)) ((Decides-int_eq a.y b.y).1 (ap (λ (t : V2). t.y) h))
+same_yes a b h = and_from (int_eq a.x b.x) (int_eq a.y b.y) ((Decides-int_eq a.x b.x).1 (ap (λ (t : V2). t.x) h)) ((Decides-int_eq a.y b.y).1 (ap (λ (t : V2). t.y) h))
 
 -- ---- near elements, and edges whose ends differ
 
-pub near : (z : ℤ) → is_far z ≡ false → IsWithin 1023 z
+pub near : (z : ℤ) → is_far z ≡ false → IsCoord z
 near z h = record { within = by (unsigned_abs z) h }
   where
-    by : (n : ℕ) → nat_lt 1023 n ≡ false → n ≤ 1023
+    by : (n : ℕ) → nat_lt MOST_COORD n ≡ false → n ≤ MOST_COORD
     by n k = grind (arith, nat_tests)
 
 near_point : (v : V2) → not (is_far_point v) ≡ true → AreCoords v
-near_point v h = let p = neither (is_far v.x) (is_far v.y) h in record { x_near = near v.x p.0; y_near = near v.y p.1 }
+near_point v h = let p = or_parts (is_far v.x) (is_far v.y) (not-true (is_far_point v) h) in record { x_near = near v.x p.0; y_near = near v.y p.1 }
 
 near_element : (e : Element) → is_drawn e ≡ true → AreNear e
 near_element (Edge a b) h =
@@ -74,7 +58,7 @@ apart : (a b : V2) → is_drawn (Edge a b) ≡ true → a ≢ b
 apart a b h e =
     let p = and_parts (not (is_far_point a)) (not (is_far_point b) && not (is_same a b)) h in
     let q = and_parts (not (is_far_point b)) (not (is_same a b)) p.1 in
-    let r : true ≡ false = sym (same_yes a b e) ∙ is_false (is_same a b) q.1 in
+    let r : true ≡ false = sym (same_yes a b e) ∙ not-true (is_same a b) q.1 in
     cc
 
 -- ---- the fault of an arc
@@ -89,7 +73,7 @@ some_radius c a h =
     let s = squares_zero (a.x -ℤ c.x) (a.y -ℤ c.y) z in
     let ex : c.x ≡ a.x = gone c.x a.x s.0 in
     let ey : c.y ≡ a.y = gone c.y a.y s.1 in
-    absurd (let q : true ≡ false = sym (both (int_eq c.x a.x) (int_eq c.y a.y) ((Decides-int_eq c.x a.x).1 ex) ((Decides-int_eq c.y a.y).1 ey)) ∙ h in cc))
+    absurd (let q : true ≡ false = sym (and_from (int_eq c.x a.x) (int_eq c.y a.y) ((Decides-int_eq c.x a.x).1 ex) ((Decides-int_eq c.y a.y).1 ey)) ∙ h in cc))
   where
     gone : (x y : ℤ) → y -ℤ x ≡ pos 0 → x ≡ y
     gone x y e = omega (arith, ints)
@@ -106,10 +90,10 @@ different o x h k = let q : None ≡ Some x = sym h ∙ k in cc
 
 closed_arc : (n : ℕ) (a b c : V2) → arc_fault n a b c ≡ None → IsClosedArc a b c
 closed_arc n a b c h =
-    elim (cases (is_same c a)) [
+    elim (cases_Bool (is_same c a)) [
       | inl s ↦ absurd (different (arc_fault n a b c) (ZeroRadius n) h (zero n a b c s))
       | inr s ↦
-          elim (cases (int_eq (square_between c b) (square_between c a))) [
+          elim (cases_Bool (int_eq (square_between c b) (square_between c a))) [
             | inl e ↦ record { proper = some_radius c a s; closed = (Decides-int_eq (square_between c b) (square_between c a)).0 e }
             | inr e ↦ absurd (different (arc_fault n a b c) (SkewArc n (square_between c a) (square_between c b)) h (skew n a b c s e))
           ]
@@ -117,7 +101,7 @@ closed_arc n a b c h =
 
 no_fault : (n : ℕ) (a b c : V2) → IsClosedArc a b c → arc_fault n a b c ≡ None
 no_fault n a b c h =
-    elim (cases (is_same c a)) [
+    elim (cases_Bool (is_same c a)) [
       | inl s ↦ absurd (let z = no_radius c a s in let p = h.proper in omega (arith, ints))
       | inr s ↦ even n a b c s ((Decides-int_eq (square_between c b) (square_between c a)).1 h.closed)
     ]
