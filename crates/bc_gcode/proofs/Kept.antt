@@ -1,7 +1,8 @@
 -- A program stays sound over its blocks.
-use Rattle.std.proofs.Common.{◌≡◌, ◌≤◌, ℕ, ◌+◌, Bool, true, false, not, ◌&&◌, ◌||◌, nat_eq, List, [], ◌∷◌, length, Option, Some, None, ℤ, Result, Ok, Err, refl, sym, ap, ◌∙◌, subst, arith, lit≤, if◌then◌else◌}
+use Rattle.std.proofs.Common.{◌≡◌, ◌≤◌, ℕ, ◌+◌, Bool, true, false, not, ◌&&◌, nat_eq, List, [], ◌∷◌, length, Option, Some, None, ℤ, Result, Ok, Err, refl, sym, ap, ◌∙◌, subst, arith, lit≤, if◌then◌else◌}
 use Rattle.std.proofs.lemmas.List.Elements.{All-nil}
 use Rattle.std.specs.Option.{unwrap_or}
+use Rattle.std.proofs.lemmas.Bool.{and_from, and_parts, or_from, or_parts, not_from_false}
 use Rattle.bc_num.specs.declared.whole.NumFault.{NumFault}
 use Rattle.bc_num.specs.Whole.{whole}
 use Rattle.bc_num.specs.Lines.{lines}
@@ -25,7 +26,7 @@ use Rattle.bc_gcode.specs.Program.{end_point, centre, add, close, has_end, has_c
 use Rattle.bc_gcode.specs.Gcode.{finish, run, opening, contours_of}
 use Rattle.bc_gcode.specs.Laws.{AreContours, EndsWell}
 use Rattle.bc_gcode.specs.Laws.{ReadAreContours}
-use Rattle.bc_gcode.proofs.Sound.{Sound, Reaches, add_sound, close_sound, pick, bind, both, second, yes}
+use Rattle.bc_gcode.proofs.Sound.{Sound, Reaches, add_sound, close_sound, pick, bind, yes}
 
 no : {A : Type 0} (e : GFault) (t : A) (P : Type 0) → Err e ≡ yes t → P
 no e t P h = cc
@@ -119,28 +120,14 @@ block-near l line t h = with-words l 0 no_words (line_words line) t (record { x 
 
 -- Blocks
 
-either : (a b : Bool) → a ≡ false → b ≡ false → (a || b) ≡ false
-either a b h k = rw (h, k) refl
-
-left-false : (a b : Bool) → (a || b) ≡ false → a ≡ false
-left-false false b h = refl
-left-false true b h = cc
-
-right-false : (a b : Bool) → (a || b) ≡ false → b ≡ false
-right-false false b h = h
-right-false true b h = cc
-
-not-false : (a : Bool) → a ≡ false → not a ≡ true
-not-false a h = rw h refl
-
 or-near : (o : Option ℤ) (d : ℤ) → far_or o ≡ false → is_far d ≡ false → is_far (unwrap_or o d) ≡ false
 or-near None d h k = k
 or-near (Some v) d h k = h
 
 end-near : (p : V2) (b : Block) → NearBlock b → is_far_point p ≡ false → is_far_point (end_point p b) ≡ false
 end-near p b k h =
-    either (is_far (unwrap_or b.x p.x)) (is_far (unwrap_or b.y p.y)) (or-near b.x p.x k.x (left-false (is_far p.x) (is_far p.y) h))
-    (or-near b.y p.y k.y (right-false (is_far p.x) (is_far p.y) h))
+    or_from (is_far (unwrap_or b.x p.x)) (is_far (unwrap_or b.y p.y)) (or-near b.x p.x k.x (or_parts (is_far p.x) (is_far p.y) h).0)
+    (or-near b.y p.y k.y (or_parts (is_far p.x) (is_far p.y) h).1)
 
 same : (s t : Program) → yes s ≡ yes t → Sound s → Sound t
 same s t h k = let e : s ≡ t = cc in subst Sound e k
@@ -164,8 +151,8 @@ linear-sound l b s t n k h =
     let far : is_far_point p ≡ false = end-near s.position b n k.near in
     pick (has_end b && not (is_same s.position p)) (add l s (Edge s.position p)) (yes s) t (Sound t)
     (λ q r. add_sound l s (Edge s.position p) t k
-    (both (not (is_far_point s.position)) _ (not-false (is_far_point s.position) k.near)
-    (both (not (is_far_point p)) (not (is_same s.position p)) (not-false (is_far_point p) far) (second (has_end b) _ q)))
+    (and_from (not (is_far_point s.position)) _ (not_from_false (is_far_point s.position) k.near)
+    (and_from (not (is_far_point p)) (not (is_same s.position p)) (not_from_false (is_far_point p) far) (and_parts (has_end b) _ q).1))
     far refl r)
     (λ q r. same s t r k) h
 
@@ -178,8 +165,8 @@ arc-sound ccw l b s t n k h =
     pick (not (has_centre b)) _ _ t (Sound t) (λ q r. no _ t (Sound t) r) (λ q r.
     pick (is_far_point c) _ _ t (Sound t) (λ q r. no _ t (Sound t) r) (λ q r.
     add_sound l s (Arc s.position p c ccw) t k
-    (both (not (is_far_point s.position)) _ (not-false (is_far_point s.position) k.near)
-    (both (not (is_far_point p)) (not (is_far_point c)) (not-false (is_far_point p) far) (not-false (is_far_point c) q)))
+    (and_from (not (is_far_point s.position)) _ (not_from_false (is_far_point s.position) k.near)
+    (and_from (not (is_far_point p)) (not (is_far_point c)) (not_from_false (is_far_point p) far) (not_from_false (is_far_point c) q)))
     far refl r) r) r) h
 
 move-sound : (m : Option Motion) (l : ℕ) (b : Block) (s t : Program) → NearBlock b → Sound s → move_in m l b s ≡ Ok t → Sound t

@@ -1,5 +1,6 @@
 -- What a program keeps from block to block.
-use Rattle.std.proofs.Common.{◌≡◌, ◌≤◌, ◌<◌, ℕ, ◌+◌, Bool, true, false, ◌&&◌, nat_lt, List, [], ◌∷◌, ◌++◌, length, Result, Ok, Err, refl, sym, ap, ◌∙◌, subst, arith, length-append, append-nil, append_assoc, if◌then◌else◌}
+use Rattle.std.proofs.Common.{◌≡◌, ◌≤◌, ◌<◌, ℕ, ◌+◌, Bool, true, false, nat_lt, List, [], ◌∷◌, ◌++◌, length, Result, Ok, Err, refl, sym, ap, ◌∙◌, subst, arith, length-append, append-nil, append_assoc, if◌then◌else◌}
+use Rattle.std.proofs.lemmas.Bool.{and_from, and_parts}
 use Rattle.std.proofs.lemmas.Bool.Decides.{Decides-int_eq}
 use Rattle.std.proofs.lemmas.List.Elements.{All-append, All-cons, All-nil}
 use Rattle.std.proofs.lemmas.List.Folds.{list_all-append}
@@ -19,25 +20,11 @@ use Rattle.bc_gcode.specs.Program.{last_end, ends_of, close, close_at, add}
 
 -- Tests
 
-pub both : (a b : Bool) → a ≡ true → b ≡ true → (a && b) ≡ true
-both a b h k = rw (h, k) refl
-
-pub first : (a b : Bool) → (a && b) ≡ true → a ≡ true
-first true b h = refl
-first false b h = h
-
-pub second : (a b : Bool) → (a && b) ≡ true → b ≡ true
-second true b h = h
-second false b h = cc
-
 pub same_is : (p q : V2) → is_same p q ≡ true → p ≡ q
 same_is p q h =
-    let x : p.x ≡ q.x = (Decides-int_eq p.x q.x).0 (first _ _ h) in
-    let y : p.y ≡ q.y = (Decides-int_eq p.y q.y).0 (second (int_eq p.x q.x) _ h) in
+    let x : p.x ≡ q.x = (Decides-int_eq p.x q.x).0 (and_parts (int_eq p.x q.x) _ h).0 in
+    let y : p.y ≡ q.y = (Decides-int_eq p.y q.y).0 (and_parts (int_eq p.x q.x) _ h).1 in
     rw (x, y) refl
-
-pub same_self : (p : V2) → is_same p p ≡ true
-same_self p = both (int_eq p.x p.x) (int_eq p.y p.y) ((Decides-int_eq p.x p.x).1 refl) ((Decides-int_eq p.y p.y).1 refl)
 
 -- Contours
 
@@ -71,7 +58,7 @@ joined-more [] c = append-nil c
 joined-more (d ∷ ds) c = ap (λ es. d ++ es) (joined-more ds c) ∙ sym (append_assoc d (joined ds) c)
 
 drawn-both : (xs ys : List Element) → list_all is_drawn xs ≡ true → list_all is_drawn ys ≡ true → list_all is_drawn (xs ++ ys) ≡ true
-drawn-both xs ys h k = list_all-append is_drawn xs ys ∙ both (list_all is_drawn xs) (list_all is_drawn ys) h k
+drawn-both xs ys h k = list_all-append is_drawn xs ys ∙ and_from (list_all is_drawn xs) (list_all is_drawn ys) h k
 
 -- Programs
 
@@ -112,7 +99,7 @@ added s e h k i n b =
     record {
       near = n;
       chain = reaches-more s.position s.contour e k.chain b;
-      drawn = drawn-both s.contour (e ∷ []) k.drawn (both (is_drawn e) true i refl);
+      drawn = drawn-both s.contour (e ∷ []) k.drawn (and_from (is_drawn e) true i refl);
       done = k.done;
       done_drawn = k.done_drawn;
       count = omega arith;

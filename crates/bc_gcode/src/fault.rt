@@ -8,6 +8,7 @@ use thiserror::Error;
 /// faults come in the order `BadWord` to `TooFar`. If no word of a line is at fault, the faults of its block come in the
 /// order `ThreeAxis`, `MissingMotion`, `OpenContour` of a G00, `MissingCentre`, `TooFar`, `TooMany`, and `OpenContour` of
 /// an M02 or M30. (The words and the modes are RS274/NGC's, the names and the order this project's own.)
+/// What counts for users is the line that the program writes (`docs/formats.md`), and not `Display`.
 #[derive(Debug, Drop, PartialEq, Eq, Clone, Copy, Error)]
 pub enum GFault {
     /// Bytes begin no word; `word` is the number that it would have.

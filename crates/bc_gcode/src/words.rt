@@ -8,7 +8,7 @@ ghost use Rattle.bc_gcode.specs.Blocks.{among, mode_of, is_free_g, ends_program,
 use crate::block::{Block, Motion};
 use crate::fault::GFault;
 use bc_lex::{BadAt, GWord, GWords, Line};
-use bc_num::{NumFault, read_whole};
+use bc_num::{MOST_COORD, NumFault, read_whole};
 
 // The motion mode that a G word sets.
 fn motion_mode(code: i64) -> Option<Option<Motion>>
@@ -140,7 +140,7 @@ fn read_offset(old: &Option<i64>, word: &GWord<'_>) -> Result<i64, GFault>
 pub fn far(value: i64) -> bool
     ensures { result ≡ is_far value }
 {
-    value.unsigned_abs() > 1023
+    value.unsigned_abs() > MOST_COORD
 }
 
 // The whole number of a word within 1023, where none stands yet.

@@ -2,6 +2,7 @@
 use Rattle.std.proofs.Common.{◌≡◌, ◌≤◌, ℕ, zero, suc, ◌+◌, ◌*◌, Bool, true, false, ◌&&◌, ◌||◌, nat_lt, nat_le, List, [], ◌∷◌, drop, length, ℤ, pos, negsuc, Result, Ok, Err, refl, sym, ap, ◌∙◌, subst, arith, if◌then◌else◌}
 use Rattle.std.specs.Prelude.{int_lt, int_le, unsigned_abs}
 use Rattle.std.specs.List.{list_all}
+use Rattle.std.proofs.lemmas.Bool.{and_from}
 use Rattle.bc_num.specs.declared.v3.V3.{V3}
 use Rattle.bc_solid.specs.Contours.{is_far}
 use Rattle.bc_solid.specs.Meshes.{Mesh, is_near_place, corner_count}
@@ -36,9 +37,6 @@ pass-by false test f r t e h = let is : (if test then Err f else r) ≡ r = rw e
 pass : {A : Type 0} (test : Bool) (f : OffFault) (r : Result A OffFault) (t : A) → (if test then Err f else r) ≡ Ok t → (test ≡ false) × (r ≡ Ok t)
 pass test f r t h = pass-by test test f r t refl h
 
-both : (a b : Bool) → a ≡ true → b ≡ true → (a && b) ≡ true
-both a b h k = rw (h, k) refl
-
 -- ---- rows
 
 pub record Kept {A : Type 0} (P : A → Bool) (k : ℕ) (xs : List A) : Type 0 where
@@ -46,7 +44,7 @@ pub record Kept {A : Type 0} (P : A → Bool) (k : ℕ) (xs : List A) : Type 0 w
   pub count : length xs ≡ k
 
 kept-more : {A : Type 0} (P : A → Bool) (k : ℕ) (x : A) (xs : List A) → P x ≡ true → Kept P k xs → Kept P (suc k) (x ∷ xs)
-kept-more P k x xs h s = let count : length xs ≡ k = s.count in record { all = both (P x) (list_all P xs) h s.all; count = omega arith }
+kept-more P k x xs h s = let count : length xs ≡ k = s.count in record { all = and_from (P x) (list_all P xs) h s.all; count = omega arith }
 
 kept-as : {A : Type 0} (P : A → Bool) (k : ℕ) (xs ys : List A) → yes xs ≡ yes ys → Kept P k xs → Kept P k ys
 kept-as P k xs ys h s = subst (Kept P k) (ok-is xs ys h) s

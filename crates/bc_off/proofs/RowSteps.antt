@@ -1,5 +1,5 @@
 -- One row of a text.
-use Rattle.std.proofs.Common.{◌≡◌, ℕ, ◌+◌, true, false, List, [], ◌∷◌, length, Option, Some, None, is_none, refl, sym, ap, ◌∙◌, arith}
+use Rattle.std.proofs.Common.{◌≡◌, ℕ, ◌+◌, true, false, List, [], ◌∷◌, length, Option, Some, is_none, refl, sym, ap, ◌∙◌, arith}
 use Rattle.bc_lex.specs.Places.{LinePlace, WordPlace}
 use Rattle.bc_lex.specs.Lines.{ALine, next_line, after_line}
 use Rattle.bc_lex.specs.Words.{words_of, plain_line, next_plain}
@@ -11,9 +11,6 @@ use Rattle.bc_off.proofs.WordSteps.{IsMore, ended, more}
 
 next-left : (p : LinePlace) (o : Option ALine) → o ≡ next_line p → lines_left p ≡ line_then o (lines_left (after_line p))
 next-left p o h = next_line_is_first p ∙ ap (λ q. line_then q (lines_left (after_line p))) (sym h)
-
-pub lines_none : (p : LinePlace) → None ≡ next_line p → lines_left p ≡ []
-lines_none p h = next-left p None h
 
 pub rows_line : (p : LinePlace) (l : ALine) → Some l ≡ next_line p → rows_left p ≡ row_before l.number (words_of l.text) (rows_left (after_line p))
 rows_line p l h =

@@ -1,5 +1,5 @@
 -- Items that are read one after another: one more turn.
-use Rattle.std.proofs.Common.{◌≡◌, ◌<◌, ℕ, suc, ◌+◌, ◌-◌, List, [], ◌∷◌, ◌++◌, drop, Result, Ok, Err, refl, sym, ap, ◌∙◌, subst, arith, append_assoc}
+use Rattle.std.proofs.Common.{◌≡◌, ◌<◌, ℕ, suc, ◌+◌, ◌-◌, List, [], ◌∷◌, ◌++◌, drop, Result, Ok, Err, refl, sym, ap, ◌∙◌, arith, append_assoc}
 use Rattle.std.proofs.lemmas.List.{drop-drop}
 use Rattle.bc_off.specs.declared.fault.OffFault.{OffFault}
 use Rattle.bc_off.specs.declared.fault.OffFault.TheVariants.{Short, Memory}
@@ -17,18 +17,11 @@ pub failed : {A B : Type 0} (f : OffFault) (r : Result A OffFault) (k : A → Re
 failed Memory r k want h e = tt
 failed _ r k want h e = e ∙ ap (λ r. r >>= k) h
 
-pub along : {A : Type 0} (r x y : Result A OffFault) → y ≡ x → Gives r x → Gives r y
-along {A} r x y e h = let P : Result A OffFault → Type 0 = λ w. Gives r w in subst P (sym e) h
-
 -- ---- lists
 
 -- items put before those of an answer
 abbrev pub joined : {A : Type 0} → List A → Result (List A) OffFault → Result (List A) OffFault
 joined xs r = r >>= λ ys. Ok (xs ++ ys)
-
-pub joined_none : {A : Type 0} (r : Result (List A) OffFault) → joined [] r ≡ r
-joined_none (Ok xs) = refl
-joined_none (Err f) = refl
 
 pub joined_more : {A : Type 0} (xs : List A) (x : A) (r : Result (List A) OffFault) → joined xs (r >>= λ ys. Ok (x ∷ ys)) ≡ joined (xs ++ x ∷ []) r
 joined_more xs x (Ok ys) = ap Ok (sym (append_assoc xs (x ∷ []) ys))
@@ -36,9 +29,6 @@ joined_more xs x (Err f) = refl
 
 pub less_one : (k i : ℕ) → i < k → k - i ≡ suc (k - (i + 1))
 less_one k i h = omega arith
-
-pub none_more : (k i : ℕ) → i ≡ k → k - i ≡ 0
-none_more k i h = omega arith
 
 pub over : {A : Type 0} (r : Result A OffFault) (k : A → Result (List A) OffFault) (xs : List A) → joined xs (r >>= k) ≡ (r >>= λ x. joined xs (k x))
 over (Ok x) k xs = refl

@@ -7,7 +7,7 @@ use Rattle.bc_lex.specs.Left.{plain_left, plain_then}
 use Rattle.bc_lex.proofs.PlainSteps.{next_plain_is_first, plain_moved, plain_line_stays, plain_text_stays}
 use Rattle.bc_off.specs.declared.fault.OffFault.TheVariants.{BadCount, Short, Extra}
 use Rattle.bc_off.specs.Entries.{number, whole_of, no_more}
-use Rattle.bc_off.specs.Header.{count_of, count}
+use Rattle.bc_off.specs.Header.{checked_count, count}
 use Rattle.bc_off.specs.Left.{IsBehind}
 
 next-left : (p : WordPlace) (o : Option PlainWord) → o ≡ next_plain p → plain_left p ≡ plain_then o (plain_left (after_plain p))
@@ -28,7 +28,7 @@ number_some p w h = ap (number p.line (p.nth + 1)) (some_left p w h)
 pub count_none : (p : WordPlace) → None ≡ next_plain p → count p.line (p.nth + 1) (plain_left p) ≡ Err (BadCount p.line (p.nth + 1))
 count_none p h = ap (count p.line (p.nth + 1)) (none_left p h)
 
-pub count_some : (p : WordPlace) (w : PlainWord) → Some w ≡ next_plain p → count p.line (p.nth + 1) (plain_left p) ≡ count_of p.line (p.nth + 1) (whole w.text)
+pub count_some : (p : WordPlace) (w : PlainWord) → Some w ≡ next_plain p → count p.line (p.nth + 1) (plain_left p) ≡ checked_count p.line (p.nth + 1) (whole w.text)
 count_some p w h = ap (count p.line (p.nth + 1)) (some_left p w h)
 
 -- no word is left, or one

@@ -15,14 +15,14 @@ abbrev pub is_off : List ℕ → Bool
 is_off (a ∷ b ∷ c ∷ []) = nat_eq a 79 && (nat_eq b 70 && nat_eq c 70)
 is_off _ = false
 
-abbrev pub count_of : ℕ → ℕ → Result ℤ NumFault → Result ℕ OffFault
-count_of l n (Err _) = Err (BadCount l n)
-count_of l n (Ok v) = if int_lt v (pos 0) then Err (BadCount l n) else Ok (unsigned_abs v)
+abbrev pub checked_count : ℕ → ℕ → Result ℤ NumFault → Result ℕ OffFault
+checked_count l n (Err _) = Err (BadCount l n)
+checked_count l n (Ok v) = if int_lt v (pos 0) then Err (BadCount l n) else Ok (unsigned_abs v)
 
 -- a count. BadCount: there is no word, or it is no whole number, or a negative one
 abbrev pub count : ℕ → ℕ → List (List ℕ) → Result ℕ OffFault
 count l n [] = Err (BadCount l n)
-count l n (w ∷ ws) = count_of l n (whole w)
+count l n (w ∷ ws) = checked_count l n (whole w)
 
 abbrev pub at_most : ℕ → ℕ → ℕ → ℕ → Result ℕ OffFault
 at_most l n most v = if nat_lt most v then Err (TooMany l n) else Ok v

@@ -6,7 +6,7 @@ ghost use Rattle.bc_off.specs.Entries.{whole_of, number, coordinate, no_more};
 
 use crate::fault::OffFault;
 use bc_lex::Words;
-use bc_num::{NumFault, read_whole};
+use bc_num::{MOST_COORD, NumFault, read_whole};
 
 /// The line and the number of the next word, or of the one that is missing.
 pub fn place_of_next(words: &Words<'_>) -> (u32, u32)
@@ -48,7 +48,7 @@ pub fn read_coordinate(words: &mut Words<'_>) -> Result<i64, OffFault>
 {
     let (line, word) = place_of_next(words);
     let value = read_number(words)?;
-    if value.unsigned_abs() > 1023 {
+    if value.unsigned_abs() > MOST_COORD {
         return Err(OffFault::TooFar { line, word });
     }
     Ok(value)

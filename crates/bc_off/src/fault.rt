@@ -6,6 +6,7 @@ use thiserror::Error;
 
 /// The first fault of an OFF text, read from its first word to its last. Lines and words count from 1; the word is 0 where
 /// the text ends too early, and the line is then the one behind the last.
+/// What counts for users is the line that the program writes (`docs/formats.md`), and not `Display`.
 #[derive(Debug, Drop, PartialEq, Eq, Clone, Copy, Error)]
 pub enum OffFault {
     /// The first word is not `OFF`, or there is none.

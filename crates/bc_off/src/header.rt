@@ -3,7 +3,7 @@ ghost use Rattle.bc_num.specs.Whole.{whole};
 ghost use Rattle.bc_lex.specs.Words.{after_plain};
 ghost use Rattle.bc_lex.specs.Left.{plain_left};
 ghost use Rattle.bc_off.specs.Left.{rows_left, end_left};
-ghost use Rattle.bc_off.specs.Header.{is_off, count_of, count, limited, counts, behind_off, header, before_rows};
+ghost use Rattle.bc_off.specs.Header.{is_off, checked_count, count, limited, counts, behind_off, header, before_rows};
 
 use crate::entries::{check_end, place_of_next};
 use crate::fault::OffFault;
@@ -20,7 +20,7 @@ pub struct Counts {
 
 // The count that a word at a place says.
 fn count_value(text: &[u8], line: u32, word: u32) -> Result<u64, OffFault>
-    ensures { result ≡ count_of line word (whole text.now) }
+    ensures { result ≡ checked_count line word (whole text.now) }
 {
     match read_whole(text) {
         Ok(value) if value >= 0 => Ok(value.unsigned_abs()),

@@ -147,15 +147,3 @@ chord_law a b c false h = record {
   circle = λ q p off. circle (arc_of a b c false) p b a (record { at_s = h.closed; at_e = refl }) off (sym q);
   past = λ p o. past (arc_of a b c false) p b a (record { at_s = h.closed; at_e = refl }) (far_off _ _ o) o ∙ back b a p;
 }
-
--- ---- full circles
-
--- from a to itself round c
-pub circle_odd : (a c : V2) (ccw : Bool) (p : P2) → pos 0 <ℤ square_between c a → square_distance c p ≢ square_between c a *ℤ (p.w *ℤ p.w)
-    → is_odd (crossings_of_arc (record { start = a; end = a; centre = c; ccw = ccw }) p) ≡ int_lt (square_distance c p) (square_between c a *ℤ (p.w *ℤ p.w))
-circle_odd a c ccw p h off = (chord_law a a c ccw (record { proper = h; closed = refl })).circle refl p off
-
--- strictly outside its disc
-pub circle_even : (a c : V2) (ccw : Bool) (p : P2) → pos 0 <ℤ square_between c a → (square_between c a *ℤ (p.w *ℤ p.w)) <ℤ square_distance c p
-    → is_odd (crossings_of_arc (record { start = a; end = a; centre = c; ccw = ccw }) p) ≡ false
-circle_even a c ccw p h o = circle_odd a c ccw p h (far_off _ _ o) ∙ lt_no (square_distance c p) (square_between c a *ℤ (p.w *ℤ p.w)) (weak _ _ o)

@@ -2,7 +2,7 @@
 -- evenly.
 use Rattle.std.proofs.Common.{◌≡◌, Bool, true, false, not, ◌&&◌, ◌||◌, inl, inr, List, [], ◌∷◌, ◌++◌, arith, refl, sym, ◌∙◌, ap, subst}
 use Rattle.std.proofs.lemmas.Int.{ints, by_lt_z}
-use Rattle.std.proofs.lemmas.Bool.{false_from_ne_true, true≢false}
+use Rattle.std.proofs.lemmas.Bool.{false_from_ne_true, true≢false, cases_Bool}
 use Rattle.std.specs.Prelude.{All, slice_index_or, int_lt}
 use Rattle.std.specs.Ordering.{int_eq}
 use Rattle.std.proofs.lemmas.List.Elements.{All-nil, All-cons, All-head, All-tail}
@@ -25,11 +25,12 @@ use Rattle.bc_parity.specs.Faces.{shadow, shadow_point, rises, is_above_or_on, i
 use Rattle.bc_parity.specs.FaceLaws.{IsThrough}
 use Rattle.bc_parity.proofs.Orders.{eq_yes, eq_is}
 use Rattle.bc_parity.proofs.Signs.{not_zero-left, same_sign, same_sign-scaled}
-use Rattle.bc_parity.proofs.Xors.{xor_same, xor_through, xor_false, xor_comm, xor_zero, and_xor, and_false, bool_cases, odd-append, odd-xor, odd-and, odd-same}
+use Rattle.bc_parity.proofs.Xors.{xor_same, xor_through, xor_false, xor_comm, xor_zero, and_xor, and_false, odd-append, odd-xor, odd-and, odd-same}
 use Rattle.bc_parity.proofs.Segments.{same_cases}
 use Rattle.bc_parity.proofs.Turns.{turn_back}
 use Rattle.bc_parity.proofs.Edges.{is_under, edge_lemma}
-use Rattle.bc_parity.proofs.Joins.{IsSymmetric, flipped, joins-cases}
+use Rattle.bc_solid.proofs.Joins.{flipped, joins-cases}
+use Rattle.bc_parity.proofs.Joins.{IsSymmetric}
 use Rattle.bc_parity.proofs.Marks.{Marked, marked, passes, odd-marked, list_law}
 use Rattle.bc_parity.proofs.Planes.{turn_of, IsUpright}
 use Rattle.bc_parity.proofs.Middles.{IsOneSideOf, exchanged, IsLevel, level_between}
@@ -114,10 +115,10 @@ crossed-flipped e p =
 
     zero : (a b : ℤ) → a ≡ neg_ℤ b → int_eq a (pos 0) ≡ int_eq b (pos 0)
     zero a b h =
-        elim (bool_cases (int_eq b (pos 0))) [
+        elim (cases_Bool (int_eq b (pos 0))) [
           | inl x ↦ let k : b ≡ pos 0 = eq_is b (pos 0) x in eq_yes a (pos 0) (omega (arith, ints)) ∙ sym x
           | inr x ↦
-              elim (bool_cases (int_eq a (pos 0))) [
+              elim (cases_Bool (int_eq a (pos 0))) [
                 | inl y ↦ let k : a ≡ pos 0 = eq_is a (pos 0) y in absurd (clash (int_eq b (pos 0)) (eq_yes b (pos 0) (omega (arith, ints))) x)
                 | inr y ↦ y ∙ sym x
               ]
@@ -172,7 +173,7 @@ odd-all_edges test (f ∷ fs) = ap (xor (odd test (edges f.corners))) (odd-all_e
 pub found : {A : Type 0} (test : A → Bool) (Q : A → Type 0) (xs : List A) → All Q xs → odd test xs ≡ true → (x : A) × (test x ≡ true) × Q x
 found test Q [] h k = absurd (clash false k refl)
 found test Q (x ∷ xs) h k =
-    elim (bool_cases (test x)) [
+    elim (cases_Bool (test x)) [
       | inl y ↦ (x, y, All-head Q x xs h)
       | inr y ↦ found test Q xs (All-tail Q x xs h) (sym (ap (λ b. xor b (odd test xs)) y) ∙ k)
     ]
@@ -200,12 +201,12 @@ when_left m n true h = ap (λ x. x && true) (h refl)
 when_left m n false h = and_false m ∙ sym (and_false n)
 
 -- the corners of each face are on its plane, and each pair of ends occurs evenly
-pub record IsMesh (fs : List Facet) : Type 0 where
+pub record IsFlatAndEven (fs : List Facet) : Type 0 where
   pub flat : All (λ f. All (IsOnPlane f.plane) f.corners) fs
   pub even : (k : Edge3) → odd (joins k) (all_edges (outlines fs)) ≡ false
 
 -- where p is above all planes through an edge or below all, its marks are all its occurrences, or none
-even_marks : (fs : List Facet) (p q : P3) → IsMesh fs → All (λ f. IsOneSideOf f.plane p q) fs → (k : Edge3) → IsLevel p q k → odd (passes (joins k)) (marks p fs) ≡ false
+even_marks : (fs : List Facet) (p q : P3) → IsFlatAndEven fs → All (λ f. IsOneSideOf f.plane p q) fs → (k : Edge3) → IsLevel p q k → odd (passes (joins k)) (marks p fs) ≡ false
 even_marks fs p q mesh sides k l =
     odd-marks (joins k) p fs
     ∙ odd-same (λ f. is_over f.plane p && odd (joins k) (edges f.corners)) (λ f. int_lt (pos 0) l.height && odd (joins k) (edges f.corners)) fs
@@ -222,7 +223,7 @@ even_marks fs p q mesh sides k l =
         let e : (e : Edge3) × (joins k e ≡ true) × IsThrough f.plane e = found (joins k) (IsThrough f.plane) (edges f.corners) (edges-each (IsOnPlane f.plane) f.corners h) o in
         same_sign (f.plane.c *ℤ plane_value f.plane p) l.height (l.is f.plane (joins-through f.plane k e.0 e.1 e.2) s)
 
-pub same_parity : (fs : List Facet) (p q : P3) → IsMesh fs → All (λ f. IsOneSideOf f.plane p q) fs → is_odd3_at fs p ≡ is_odd3_at fs q
+pub same_parity : (fs : List Facet) (p q : P3) → IsFlatAndEven fs → All (λ f. IsOneSideOf f.plane p q) fs → is_odd3_at fs p ≡ is_odd3_at fs q
 same_parity fs p q mesh sides =
     xor_zero (is_odd3_at fs p) (is_odd3_at fs q)
     (sym (odd-xor (λ f. is_face_crossed f p) (λ f. is_face_crossed f q) fs)

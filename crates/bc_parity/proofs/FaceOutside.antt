@@ -29,7 +29,7 @@ use Rattle.bc_parity.proofs.Outside.{at_place, at_point, one_sided, past_low, pa
 use Rattle.bc_parity.proofs.Marks.{marked, odd-marked, list_law}
 use Rattle.bc_parity.proofs.Planes.{turn_of}
 use Rattle.bc_parity.proofs.Boxes3.{IsIn3, base, in_base, all_in}
-use Rattle.bc_parity.proofs.FaceCells.{or_on, round, edges-each, odd-all_edges, clash, crossed-flipped, IsMesh}
+use Rattle.bc_parity.proofs.FaceCells.{or_on, round, edges-each, odd-all_edges, clash, crossed-flipped, IsFlatAndEven}
 
 -- ---- edges that straddle the column of p all answer b
 
@@ -238,7 +238,7 @@ not_over f p flat k o =
 -- ---- the mesh
 
 -- all edges of a closed mesh, counted whatever their face
-every_edge : (fs : List Facet) (p : P3) → IsMesh fs → odd (λ e. is_edge_crossed e p) (all_edges (outlines fs)) ≡ false
+every_edge : (fs : List Facet) (p : P3) → IsFlatAndEven fs → odd (λ e. is_edge_crossed e p) (all_edges (outlines fs)) ≡ false
 every_edge fs p mesh =
     sym (odd-marked (λ e. is_edge_crossed e p) true (all_edges (outlines fs)))
     ∙ list_law (λ e. is_edge_crossed e p) (marked true (all_edges (outlines fs))) (λ e. crossed-flipped e p)
@@ -253,7 +253,7 @@ no_face fs p h =
     ∙ odd-none fs
 
 -- each face counts as if p were above it
-each_face : (fs : List Facet) (p : P3) → IsMesh fs → All (λ f. is_over f.plane p ≡ false → IsEven p f.corners) fs → is_odd3_at fs p ≡ false
+each_face : (fs : List Facet) (p : P3) → IsFlatAndEven fs → All (λ f. is_over f.plane p ≡ false → IsEven p f.corners) fs → is_odd3_at fs p ≡ false
 each_face fs p mesh h =
     odd-same (λ f. is_face_crossed f p) (λ f. odd (λ e. is_edge_crossed e p) (edges f.corners)) fs
     (λ i d l. one (is_over (slice_index_or fs i d).plane p) (odd (λ e. is_edge_crossed e p) (edges (slice_index_or fs i d).corners)) (h i d l))
@@ -272,7 +272,7 @@ planar fs b p h out =
     beside t.a t.k t.c (slice_index_or fs i d).corners p t.through
     (All-weaker (IsIn3 b) (λ v. pos 0 <ℤ at_place t.a t.k t.c (shadow v)) (λ v g. t.above (shadow v) (in_base b v g)) (slice_index_or fs i d).corners (h i d l)))
 
-pub outside : (fs : List Facet) → IsMesh fs → (b : Box3) (p : P3) → All (λ f. All (IsIn3 b) f.corners) fs → IsOutside3 b p → is_odd3_at fs p ≡ false
+pub outside : (fs : List Facet) → IsFlatAndEven fs → (b : Box3) (p : P3) → All (λ f. All (IsIn3 b) f.corners) fs → IsOutside3 b p → is_odd3_at fs p ≡ false
 outside fs mesh b p h (inl l) = planar fs b p h (inl l)
 outside fs mesh b p h (inr (inl l)) = planar fs b p h (inr (inl l))
 outside fs mesh b p h (inr (inr (inl l))) = planar fs b p h (inr (inr (inl l)))
@@ -286,5 +286,5 @@ outside fs mesh b p h (inr (inr (inr (inr (inr l))))) =
     not_over (slice_index_or fs i d) p (mesh.flat i d k)
     (All-weaker (IsIn3 b) (λ v. pos 0 <ℤ (p.z -ℤ p.w *ℤ v.z)) (λ v g. past_high b.z1 v.z p.w p.z p.positive g.z_in.high_is l) (slice_index_or fs i d).corners (h i d k)) o)
 
-pub outside_law : (fs : List Facet) → IsMesh fs → OutsideLaw3 fs
+pub outside_law : (fs : List Facet) → IsFlatAndEven fs → OutsideLaw3 fs
 outside_law fs mesh b p box out = outside fs mesh b p (all_in b fs box) out

@@ -6,7 +6,8 @@ use Rattle.std.proofs.lemmas.Bool.{and_parts}
 use Rattle.bc_solid.specs.Meshes.{Edge3, joins}
 use Rattle.bc_parity.specs.Parity.{xor}
 use Rattle.bc_parity.specs.Sums.{odd}
-use Rattle.bc_parity.proofs.Joins.{IsSymmetric, flipped, joins-self, joins-symmetric, same_answer}
+use Rattle.bc_solid.proofs.Joins.{flipped, joins-self}
+use Rattle.bc_parity.proofs.Joins.{IsSymmetric, joins-symmetric, same_answer}
 use Rattle.bc_parity.proofs.Xors.{and_false, and_true, and_when, or_true, odd-same, odd-same_all, odd-xor, odd-and, odd-none, and_xor}
 
 pub record Marked : Type 0 where

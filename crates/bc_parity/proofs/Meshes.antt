@@ -14,7 +14,7 @@ use Rattle.bc_parity.specs.Parity.{xor}
 use Rattle.bc_parity.specs.Sums.{odd}
 use Rattle.bc_parity.specs.FaceLaws.{CellLaw3, OutsideLaw3}
 use Rattle.bc_parity.proofs.Signs.{one_side_above, one_side_below}
-use Rattle.bc_parity.proofs.FaceCells.{IsMesh, same_parity}
+use Rattle.bc_parity.proofs.FaceCells.{IsFlatAndEven, same_parity}
 use Rattle.bc_parity.proofs.FaceOutside.{outside_law}
 
 -- ---- an even number is not odd
@@ -38,7 +38,7 @@ even_is k es h = on (odd (joins k) es) (occurrences k es % 2) (ap (λ n. n % 2) 
     on true n e g = absurd (omega arith)
     on false n e g = refl
 
-pub mesh_of : (fs : List Facet) → IsSolid fs → IsMesh fs
+pub mesh_of : (fs : List Facet) → IsSolid fs → IsFlatAndEven fs
 mesh_of fs h = record { flat = λ i d l. (h.facets i d l).flat; even = λ k. even_is k (all_edges (outlines fs)) (h.even k) }
 
 -- ---- equal sides

@@ -1,58 +1,37 @@
 -- What the test of being on a boundary answers, over a list of half-spaces.
-use Rattle.std.proofs.Common.{◌≡◌, Bool, true, false, not, ◌&&◌, ◌||◌, ◌⊎◌, inl, inr, List, [], ◌∷◌, ◌++◌, refl, sym, ◌∙◌, ap}
-use Rattle.std.specs.Prelude.{All, Any, IsTrue, ◌↔◌, pos, ◌*ℤ◌, if◌then◌else◌}
+use Rattle.std.proofs.Common.{◌≡◌, Bool, true, false, ◌||◌, inl, inr, List, [], ◌∷◌, ◌++◌, refl, sym, ◌∙◌, ap}
+use Rattle.std.specs.Prelude.{All, Any, IsTrue, ◌↔◌, pos, ◌*ℤ◌}
 use Rattle.std.proofs.lemmas.List.Elements.{All-cons, All-nil, All-head, All-tail}
+use Rattle.std.proofs.lemmas.Bool.{or_cases, or_left, or_parts, or_from, false_from_ne_true, true_from_ne_false}
 use Rattle.std.proofs.lemmas.Bool.Decides.{Decides-int_eq}
 use Rattle.bc_num.specs.declared.p2.P2.{P2}
 use Rattle.bc_num.specs.Measures.{square_distance, turn}
-use Rattle.bc_solid.specs.HalfSpaces.{HalfSpace, Line, Disc, IsOn}
+use Rattle.bc_solid.specs.HalfSpaces.{HalfSpace2, Line, Disc, IsOn}
 use Rattle.bc_parity.specs.OnEdge.{is_on, is_on_any}
 use Rattle.bc_parity.proofs.Boxes.{any_head, any_tail}
 
-on_is : (h : HalfSpace) (p : P2) → (is_on h p ≡ true) ↔ IsOn h p
+on_is : (h : HalfSpace2) (p : P2) → (is_on h p ≡ true) ↔ IsOn h p
 on_is (Line a b) p = Decides-int_eq (turn a b p) (pos 0)
 on_is (Disc c r2) p = Decides-int_eq (square_distance c p) (r2 *ℤ (p.w *ℤ p.w))
 
-first : (x y : Bool) → x ≡ true → (x || y) ≡ true
-first x y h = rw h refl
-
-second : (x y : Bool) → y ≡ true → (x || y) ≡ true
-second true y h = refl
-second false y h = h
-
-either : (x y : Bool) → (x || y) ≡ true → (x ≡ true) ⊎ (y ≡ true)
-either true y h = inl refl
-either false y h = inr h
-
-pub on_any : (hs : List HalfSpace) (p : P2) → is_on_any hs p ≡ true → Any (λ h. IsOn h p) hs
+pub on_any : (hs : List HalfSpace2) (p : P2) → is_on_any hs p ≡ true → Any (λ h. IsOn h p) hs
 on_any [] p e = absurd (let q : true ≡ false = sym e in cc)
 on_any (h ∷ hs) p e =
-    elim (either (is_on h p) (is_on_any hs p) e) [
+    elim (or_cases (is_on h p) (is_on_any hs p) e) [
       | inl k ↦ any_head (λ i. IsOn i p) h hs ((on_is h p).0 k)
       | inr k ↦ any_tail (λ i. IsOn i p) h hs (on_any hs p k)
     ]
 
-pub off_all : (hs : List HalfSpace) (p : P2) → is_on_any hs p ≡ false → All (λ h. IsOn h p → ⊥) hs
+pub off_all : (hs : List HalfSpace2) (p : P2) → is_on_any hs p ≡ false → All (λ h. IsOn h p → ⊥) hs
 off_all [] p e = All-nil (λ h. IsOn h p → ⊥)
 off_all (h ∷ hs) p e =
     All-cons (λ i. IsOn i p → ⊥) h hs
-    (λ k. absurd (let q : true ≡ false = sym (first (is_on h p) (is_on_any hs p) ((on_is h p).1 k)) ∙ e in cc))
-    (off_all hs p (rest (is_on h p) (is_on_any hs p) e))
-  where
-    rest : (x y : Bool) → (x || y) ≡ false → y ≡ false
-    rest true y k = absurd (let q : true ≡ false = k in cc)
-    rest false y k = k
+    (λ k. absurd (let q : true ≡ false = sym (or_left (is_on h p) (is_on_any hs p) ((on_is h p).1 k)) ∙ e in cc))
+    (off_all hs p (or_parts (is_on h p) (is_on_any hs p) e).1)
 
-pub off_is : (hs : List HalfSpace) (p : P2) → All (λ h. IsOn h p → ⊥) hs → is_on_any hs p ≡ false
+pub off_is : (hs : List HalfSpace2) (p : P2) → All (λ h. IsOn h p → ⊥) hs → is_on_any hs p ≡ false
 off_is [] p a = refl
-off_is (h ∷ hs) p a = neither (is_on h p) (is_on_any hs p) (no (is_on h p) (λ k. All-head (λ i. IsOn i p → ⊥) h hs a ((on_is h p).0 k))) (off_is hs p (All-tail (λ i. IsOn i p → ⊥) h hs a))
-  where
-    neither : (x y : Bool) → x ≡ false → y ≡ false → (x || y) ≡ false
-    neither x y k l = rw (k, l) refl
-
-    no : (x : Bool) → (x ≡ true → ⊥) → x ≡ false
-    no true k = absurd (k refl)
-    no false k = refl
+off_is (h ∷ hs) p a = or_from (is_on h p) (is_on_any hs p) (false_from_ne_true (is_on h p) (λ k. All-head (λ i. IsOn i p → ⊥) h hs a ((on_is h p).0 k))) (off_is hs p (All-tail (λ i. IsOn i p → ⊥) h hs a))
 
 -- one by one
 at_place : {X : Type 0} (P : X → Type 0) (xs : List X) → All (λ x. P x → ⊥) xs → Any P xs → ⊥
@@ -61,14 +40,10 @@ at_place P xs a h = (subst_at h.3 (a h.0 h.1 h.2)) h.4
     subst_at : {x y : _} → x ≡ y → (P x → ⊥) → P y → ⊥
     subst_at e f k = f (rw e k)
 
-pub any_on : (hs : List HalfSpace) (p : P2) → Any (λ h. IsOn h p) hs → is_on_any hs p ≡ true
-any_on hs p h = yes (is_on_any hs p) (λ e. at_place (λ i. IsOn i p) hs (off_all hs p e) h)
-  where
-    yes : (x : Bool) → (x ≡ false → ⊥) → x ≡ true
-    yes true k = refl
-    yes false k = absurd (k refl)
+pub any_on : (hs : List HalfSpace2) (p : P2) → Any (λ h. IsOn h p) hs → is_on_any hs p ≡ true
+any_on hs p h = true_from_ne_false (is_on_any hs p) (λ e. at_place (λ i. IsOn i p) hs (off_all hs p e) h)
 
-pub on_append : (hs ks : List HalfSpace) (p : P2) → is_on_any (hs ++ ks) p ≡ (is_on_any hs p || is_on_any ks p)
+pub on_append : (hs ks : List HalfSpace2) (p : P2) → is_on_any (hs ++ ks) p ≡ (is_on_any hs p || is_on_any ks p)
 on_append [] ks p = refl
 on_append (h ∷ hs) ks p = ap (λ x. is_on h p || x) (on_append hs ks p) ∙ regroup (is_on h p) (is_on_any hs p) (is_on_any ks p)
   where
@@ -76,22 +51,9 @@ on_append (h ∷ hs) ks p = ap (λ x. is_on h p || x) (on_append hs ks p) ∙ re
     regroup true y z = refl
     regroup false y z = refl
 
--- the half-spaces of an arc
-pub arc_on : (same : Bool) (l d : HalfSpace) (p : P2) → ((not same && is_on l p) || is_on d p) ≡ is_on_any (if same then d ∷ [] else l ∷ d ∷ []) p
-arc_on true l d p = sym (or_false (is_on d p))
-  where
-    or_false : (x : Bool) → (x || false) ≡ x
-    or_false true = refl
-    or_false false = refl
-arc_on false l d p = ap (λ x. is_on l p || x) (sym (or_false (is_on d p)))
-  where
-    or_false : (x : Bool) → (x || false) ≡ x
-    or_false true = refl
-    or_false false = refl
-
 -- what an answer of the test says
-pub on_answer : (hs : List HalfSpace) (p : P2) (r : Bool) → r ≡ is_on_any hs p → IsTrue r ↔ Any (λ h. IsOn h p) hs
+pub on_answer : (hs : List HalfSpace2) (p : P2) (r : Bool) → r ≡ is_on_any hs p → IsTrue r ↔ Any (λ h. IsOn h p) hs
 on_answer hs p r e = (λ t. on_any hs p (sym e ∙ t), λ a. e ∙ any_on hs p a)
 
-pub off_answer : (hs : List HalfSpace) (p : P2) (r : Bool) → r ≡ is_on_any hs p → (r ≡ false) ↔ All (λ h. IsOn h p → ⊥) hs
+pub off_answer : (hs : List HalfSpace2) (p : P2) (r : Bool) → r ≡ is_on_any hs p → (r ≡ false) ↔ All (λ h. IsOn h p → ⊥) hs
 off_answer hs p r e = (λ f. off_all hs p (sym e ∙ f), λ a. e ∙ off_is hs p a)

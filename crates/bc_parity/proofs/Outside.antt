@@ -25,7 +25,6 @@ use Rattle.bc_parity.proofs.Signs.{same_sign}
 use Rattle.bc_parity.proofs.Xors.{and_when, and_comm, and_false, odd-same, odd-and}
 use Rattle.bc_parity.proofs.Edges.{one_passed}
 use Rattle.bc_parity.proofs.Straight.{is_chord_crossed, straight_is, rounds}
-use Rattle.bc_parity.proofs.Chords.{circle_even}
 use Rattle.bc_parity.proofs.Cells.{away_law}
 use Rattle.bc_parity.proofs.Boxes.{IsIn, IsRoundIn, IsHeld, round_holds, all_held}
 
@@ -218,9 +217,3 @@ held_in b (e ∷ es) h = all_held b (e ∷ es) (round_holds b (e ∷ es) h)
 
 pub outside_law : (contours : List (List Element)) → AreClosed contours → OutsideLaw (joined contours)
 outside_law contours h b p box o = outside_held contours h b p (held_in b (joined contours) box) o
-
--- outside the box of one circle, from s to itself round c
-pub circle_outside : (s c : V2) (ccw : Bool) (b : Box2) (p : P2) → pos 0 <ℤ square_between c s → IsBoxOf (Arc s s c ccw ∷ []) b → IsOutside b p
-    → is_odd (crossings_of_arc (record { start = s; end = s; centre = c; ccw = ccw }) p) ≡ false
-circle_outside s c ccw b p h box o =
-    circle_even s c ccw p h (outside_disc b c (square_between c s) p (All-head (IsHeld b) (Arc s s c ccw) [] (held_in b (Arc s s c ccw ∷ []) box)).1 o)

@@ -1,7 +1,7 @@
 -- Crossed segments: in another form, with the ends exchanged, and with equal ends.
 use Rattle.std.proofs.Common.{◌≡◌, Bool, true, false, ◌&&◌, ◌⊎◌, inl, inr, [], ◌∷◌, arith, refl, sym, ◌∙◌, ap}
 use Rattle.std.proofs.lemmas.Int.{ints, by_lt_z}
-use Rattle.std.proofs.lemmas.Bool.{false_from_ne_true, and_parts}
+use Rattle.std.proofs.lemmas.Bool.{false_from_ne_true, and_parts, and_from, cases_Bool}
 use Rattle.std.specs.Prelude.{int_lt, int_le}
 use Rattle.std.specs.Ordering.{int_eq}
 use lib.IntN.{ℤ, pos, ◌-ℤ◌, ◌*ℤ◌}
@@ -17,7 +17,7 @@ use Rattle.bc_parity.specs.Crossings.{has_passed, is_above_line, is_crossed}
 use Rattle.bc_parity.specs.Sides.{is_left, is_right}
 use Rattle.bc_parity.proofs.Orders.{by_order, lt_yes, lt_no, eq_yes, eq_is}
 use Rattle.bc_parity.proofs.Signs.{one_side_below}
-use Rattle.bc_parity.proofs.Xors.{xor_same, xor_comm, bool_cases}
+use Rattle.bc_parity.proofs.Xors.{xor_same, xor_comm}
 
 -- `is_crossed` by the sides of the directed line
 abbrev pub crosses_segment : V2 → V2 → P2 → Bool
@@ -74,11 +74,8 @@ at_point a p = ap (λ b. b && is_above_line a a p) (xor_same (has_passed a p))
 
 -- ---- two places are the same or not
 
-both : (x y : Bool) → x ≡ true → y ≡ true → (x && y) ≡ true
-both x y h k = rw (h, k) refl
-
 pub same_yes : (s e : V2) → s ≡ e → is_same s e ≡ true
-same_yes s e h = both (int_eq s.x e.x) (int_eq s.y e.y) (eq_yes s.x e.x (ap (λ (t : V2). t.x) h)) (eq_yes s.y e.y (ap (λ (t : V2). t.y) h))
+same_yes s e h = and_from (int_eq s.x e.x) (int_eq s.y e.y) (eq_yes s.x e.x (ap (λ (t : V2). t.x) h)) (eq_yes s.y e.y (ap (λ (t : V2). t.y) h))
 
 pub same_is : (s e : V2) → is_same s e ≡ true → s ≡ e
 same_is s e h =
@@ -93,7 +90,7 @@ same_no s e n = false_from_ne_true (is_same s e) (λ q. n (same_is s e q))
 
 pub same_cases : (s e : V2) → ((s ≡ e) × (is_same s e ≡ true)) ⊎ ((s ≡ e → ⊥) × (is_same s e ≡ false))
 same_cases s e =
-    elim (bool_cases (is_same s e)) [
+    elim (cases_Bool (is_same s e)) [
       | inl h ↦ inl (same_is s e h, h)
       | inr h ↦ inr (λ k. absurd (let q : true ≡ false = sym (same_yes s e k) ∙ h in cc), h)
     ]

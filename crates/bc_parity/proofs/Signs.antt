@@ -82,9 +82,3 @@ pub one_side_below : (x y : ℤ) → x <ℤ pos 0 → y <ℤ pos 0 → pos 0 <�
 one_side_below x y h k =
     lt_by (neg_ℤ x *ℤ neg_ℤ y) (ring (x ∷ y ∷ []) (search quotes depth 30) refl)
     (pos-mul (neg_ℤ x) (neg_ℤ y) (omega (arith, ints)) (omega (arith, ints)))
-
--- a line or plane scaled by a factor that is not 0, as a canonical one is
-pub one_side_scaled : (k x y x' y' : ℤ) → (k ≡ pos 0 → ⊥) → x' ≡ k *ℤ x → y' ≡ k *ℤ y → pos 0 <ℤ (x *ℤ y) → pos 0 <ℤ (x' *ℤ y')
-one_side_scaled k x y x' y' n e f h =
-    let g : x' *ℤ y' ≡ (k *ℤ k) *ℤ (x *ℤ y) = by_two y' (k *ℤ x) e f (ring (k ∷ x ∷ y ∷ x' ∷ y' ∷ []) (search quotes depth 30) refl) in
-    rw g (pos-mul (k *ℤ k) (x *ℤ y) (pos-square k n) h)

@@ -92,10 +92,6 @@ or_comm true false = refl
 or_comm false true = refl
 or_comm false false = refl
 
-pub bool_cases : (a : Bool) → (a ≡ true) ⊎ (a ≡ false)
-bool_cases true = inl refl
-bool_cases false = inr refl
-
 -- the second matters only where the first holds
 pub and_when : (s x y : Bool) → (s ≡ true → x ≡ y) → (s && x) ≡ (s && y)
 and_when true x y h = h refl
