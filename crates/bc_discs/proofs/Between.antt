@@ -17,10 +17,10 @@ use Rattle.bc_space.specs.declared.side.Side.{Side}
 use Rattle.bc_space.specs.declared.side.Side.TheVariants.{Below, On, Above}
 use Rattle.bc_space.specs.declared.line2.Line2.{Line2}
 use Rattle.bc_space.specs.Sides.{side_of_value}
-use Rattle.bc_space.specs.Signs.{not_below_value, not_above_value, value_above, value_below, on_value}
+use Rattle.bc_space.specs.Laws.Signs.{not_below_value, not_above_value, value_above, value_below, on_value}
 use Rattle.bc_space.specs.Lines.{line_value, line_side}
 use Rattle.bc_space.specs.Flat.{cramer_x, cramer_y, determinant2, point_over2, met2, walls2}
-use Rattle.bc_space.specs.FlatMeets.{flat_meet}
+use Rattle.bc_space.specs.Laws.FlatMeets.{flat_meet}
 use Rattle.bc_space.specs.Regions.{IsInRegion, IsCorner}
 use Rattle.bc_hull.proofs.Members.{part_all}
 use Rattle.bc_cells.proofs.Lists.{all_front, all_back}

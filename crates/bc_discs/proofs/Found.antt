@@ -75,13 +75,6 @@ mask_low b ls region cell =
 module _ (b : Box2) (ls : List Line2) (ds : List Disc2) where
   -- ---- the sets of one region
   module _ (r : ℕ) (region : Region) where
-    pub region_none : AreOfRegion b ls ds r region 0 []
-    region_none = record {
-      each = All-nil (IsOfRegion b ls ds r region 0);
-      every = λ set l k. absurd (omega arith);
-      order = λ i j d l m. absurd (omega arith);
-    }
-
     one_more : (n : ℕ) (c : Candidate) → IsOfRegion b ls ds r region n c → IsOfRegion b ls ds r region (n + 1) c
     one_more n c o = record { at = o.at; set = o.set; below = let h = o.below in omega arith; of_mask = o.of_mask; kept = o.kept; seen = o.seen }
 
@@ -122,14 +115,6 @@ module _ (b : Box2) (ls : List Line2) (ds : List Disc2) where
       pub before : All (λ c. c.region < n) candidates
       pub every : (r : ℕ) (region : Region) (set : ℕ) → r < n → slice_get regions r ≡ Some region → set < 2 ^ length ds → IsKept b ls ds region set → Any (λ c. (c.region ≡ r) × (c.mask ≡ mask_with ls region set)) candidates
       pub order : AllPairs Precedes candidates
-
-    pub regions_none : AreOfRegions 0 []
-    regions_none = record {
-      each = All-nil (IsCandidate b ls ds regions);
-      before = All-nil (λ (c : Candidate). c.region < 0);
-      every = λ r region set l at m k. absurd (omega arith);
-      order = λ i j d l m. absurd (omega arith);
-    }
 
     candidate_of : (n : ℕ) (region : Region) → slice_get regions n ≡ Some region → (c : Candidate) → IsOfRegion b ls ds n region (2 ^ length ds) c → IsCandidate b ls ds regions c
     candidate_of n region at c o = record { region = region; at = ap (λ i. slice_get regions i) o.at ∙ at; set = o.set; below = o.below; of_mask = o.of_mask; kept = o.kept; seen = o.seen }

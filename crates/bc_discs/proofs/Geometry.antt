@@ -14,10 +14,10 @@ use Rattle.bc_num.specs.Measures.{across, up, square_distance, square_between}
 use Rattle.bc_space.specs.declared.side.Side.TheVariants.{Below, Above}
 use Rattle.bc_space.specs.declared.line2.Line2.{Line2}
 use Rattle.bc_space.specs.Sides.{side_of_value}
-use Rattle.bc_space.specs.Signs.{above_value, below_value, value_above, value_below}
+use Rattle.bc_space.specs.Laws.Signs.{above_value, below_value, value_above, value_below}
 use Rattle.bc_space.specs.Lines.{line_value, line_side}
 use Rattle.bc_space.specs.Discs.{disc_value, disc_side}
-use Rattle.bc_space.specs.FlatWays.{flat_hull}
+use Rattle.bc_space.specs.Laws.FlatWays.{flat_hull}
 use Rattle.bc_discs.specs.declared.wall.Wall.{Wall}
 use Rattle.bc_discs.specs.Rules.{toward, place_value, square_normal, gap, overlap, four_radii, IsAround, IsCutOff, AreApart, IsNestedIn}
 use Rattle.bc_discs.specs.Candidates.{Region}

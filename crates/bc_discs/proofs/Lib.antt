@@ -12,3 +12,4 @@ pub mod SeenWalk
 pub mod SeenWeights
 pub mod Shown
 pub mod Sized
+pub mod ThreeCorners

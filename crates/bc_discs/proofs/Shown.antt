@@ -15,11 +15,11 @@ use Rattle.bc_num.specs.Points.{IsMultiple2}
 use Rattle.bc_num.proofs.Combining.{IsMultiple2_of-reduced}
 use Rattle.bc_space.specs.declared.line2.Line2.{Line2}
 use Rattle.bc_space.specs.Sides.{side_of_value}
-use Rattle.bc_space.specs.Signs.{value_above, value_below}
+use Rattle.bc_space.specs.Laws.Signs.{value_above, value_below}
 use Rattle.bc_space.specs.Lines.{line_side}
 use Rattle.bc_space.specs.Discs.{disc_value, disc_side}
 use Rattle.bc_space.specs.Flat.{walls2}
-use Rattle.bc_space.specs.FlatLaws.{flat_factor}
+use Rattle.bc_space.specs.Laws.FlatLaws.{flat_factor}
 use Rattle.bc_space.specs.Regions.{mask_of}
 use Rattle.bc_cells.proofs.Masks.{mask_alike}
 use Rattle.bc_discs.specs.declared.candidate.Candidate.{Candidate}

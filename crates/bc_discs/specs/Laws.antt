@@ -1,6 +1,6 @@
 -- The laws of the dropping rules and of samples: what each rule says of points, that none drops the region and the set of a
--- free point, and that a sample is a free point.
-use Rattle.std.specs.Prelude.{◌≡◌, ◌≢◌, ℕ, ◌+◌, ◌*◌, ◌^◌, Bool, true, false, List, length, Some}
+-- free point, that a sample is a free point, and that each region has one where there are no discs.
+use Rattle.std.specs.Prelude.{◌≡◌, ◌≢◌, ℕ, ◌+◌, ◌*◌, ◌^◌, Bool, true, false, List, [], length, None, Some}
 use Rattle.std.specs.List.{All}
 use Rattle.bc_num.specs.declared.p2.P2.{P2}
 use Rattle.bc_num.specs.declared.disc2.Disc2.{Disc2}
@@ -70,3 +70,7 @@ pub record IsPointWith (b : Box2) (ls : List Line2) (ds : List Disc2) (q : P2) (
 -- the point that a candidate shows has the candidate's mask
 abbrev pub SeenLaw : Type 0
 SeenLaw = (b : Box2) (ls : List Line2) (ds : List Disc2) (regions : List Region) (c : Candidate) (q : P2) → All (IsRegion b ls) regions → IsCandidate b ls ds regions c → c.seen ≡ Some q → IsPointWith b ls ds q c.mask
+
+-- without discs each candidate shows a point
+abbrev pub SomeSampleLaw : Type 0
+SomeSampleLaw = (b : Box2) (ls : List Line2) (regions : List Region) (c : Candidate) → All (IsRegion b ls) regions → IsCandidate b ls [] regions c → c.seen ≢ None

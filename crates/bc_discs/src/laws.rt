@@ -1,5 +1,5 @@
 //! Laws of the dropping rules and of samples. They hold for whole numbers of any size.
-ghost use Rattle.bc_discs.specs.Laws.{AroundLaw, CutOffLaw, ApartLaw, NestedLaw, DropLaw, SampleLaw, SeenLaw};
+ghost use Rattle.bc_discs.specs.Laws.{AroundLaw, CutOffLaw, ApartLaw, NestedLaw, DropLaw, SampleLaw, SeenLaw, SomeSampleLaw};
 
 /// Where each corner of a region is in a closed disc, no free point of the region is strictly outside it.
 pub fn around_law()
@@ -34,4 +34,9 @@ pub fn sample_law()
 /// The point that a candidate shows is free, on no circle, and has the candidate's mask.
 pub fn seen_law()
     ensures { SeenLaw }
+{}
+
+/// Where there are no discs, each candidate shows a point.
+pub fn some_sample_law()
+    ensures { SomeSampleLaw }
 {}

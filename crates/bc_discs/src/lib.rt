@@ -4,9 +4,9 @@
 #![tactic(auto)]
 
 mod candidate;
+mod candidate_list;
 mod choice;
 pub mod laws;
-mod list;
 mod rules;
 mod samples;
 mod seen;
@@ -14,8 +14,8 @@ mod sets;
 mod wall;
 
 pub use candidate::Candidate;
+pub use candidate_list::candidates;
 pub(crate) use choice::Choice;
-pub use list::candidates;
 pub(crate) use wall::Wall;
 
 #[cfg(test)]
