@@ -1,8 +1,8 @@
 -- The line of an element and the disc of an arc are told by the element, and the tests of the table find equal ones.
-use Rattle.std.proofs.Common.{◌≡◌, inl, inr, Bool, true, ◌&&◌, [], ◌∷◌, arith, refl, sym, ap, ◌∙◌}
+use Rattle.std.proofs.Common.{◌≡◌, inl, inr, true, ◌&&◌, [], ◌∷◌, arith, refl, sym, ap, ◌∙◌}
 use Rattle.std.specs.Ordering.{int_eq}
 use Rattle.std.proofs.lemmas.Int.{ints}
-use Rattle.std.proofs.lemmas.Bool.{and_parts}
+use Rattle.std.proofs.lemmas.Bool.{and_from, and_parts}
 use Rattle.std.proofs.lemmas.Bool.Decides.{Decides-int_eq}
 use lib.IntN.{ℤ, pos, ◌-ℤ◌, ◌+ℤ◌, ◌*ℤ◌, neg_ℤ}
 use Rattle.bc_algebra.proofs.Ring.{ring, quotes, by_two}
@@ -23,16 +23,13 @@ use Rattle.bc_natural.specs.Curves.{IsLineOf, IsDiscOf, is_same_line, is_same_di
 
 -- ---- tests
 
-pub both : (x y : Bool) → x ≡ true → y ≡ true → (x && y) ≡ true
-both x y h k = rw (h, k) refl
-
 pub same_place : (a b : V2) → is_same a b ≡ true → a ≡ b
 same_place a b h =
     let p = and_parts (int_eq a.x b.x) (int_eq a.y b.y) h in
     v2_same a b ((Decides-int_eq a.x b.x).0 p.0) ((Decides-int_eq a.y b.y).0 p.1)
 
 pub place_same : (a b : V2) → a ≡ b → is_same a b ≡ true
-place_same a b h = both (int_eq a.x b.x) (int_eq a.y b.y) ((Decides-int_eq a.x b.x).1 (ap (λ (t : V2). t.x) h)) ((Decides-int_eq a.y b.y).1 (ap (λ (t : V2). t.y) h))
+place_same a b h = and_from (int_eq a.x b.x) (int_eq a.y b.y) ((Decides-int_eq a.x b.x).1 (ap (λ (t : V2). t.x) h)) ((Decides-int_eq a.y b.y).1 (ap (λ (t : V2). t.y) h))
 
 pub same_line : (g h : Line2) → is_same_line g h ≡ true → g ≡ h
 same_line g h e =
@@ -42,8 +39,8 @@ same_line g h e =
 
 pub line_same : (g h : Line2) → g ≡ h → is_same_line g h ≡ true
 line_same g h e =
-    both (int_eq g.a h.a) (int_eq g.b h.b && int_eq g.d h.d) ((Decides-int_eq g.a h.a).1 (ap (λ (t : Line2). t.a) e))
-    (both (int_eq g.b h.b) (int_eq g.d h.d) ((Decides-int_eq g.b h.b).1 (ap (λ (t : Line2). t.b) e)) ((Decides-int_eq g.d h.d).1 (ap (λ (t : Line2). t.d) e)))
+    and_from (int_eq g.a h.a) (int_eq g.b h.b && int_eq g.d h.d) ((Decides-int_eq g.a h.a).1 (ap (λ (t : Line2). t.a) e))
+    (and_from (int_eq g.b h.b) (int_eq g.d h.d) ((Decides-int_eq g.b h.b).1 (ap (λ (t : Line2). t.b) e)) ((Decides-int_eq g.d h.d).1 (ap (λ (t : Line2). t.d) e)))
 
 pub same_disc : (d e : Disc2) → is_same_disc d e ≡ true → d ≡ e
 same_disc d e h =
@@ -51,7 +48,7 @@ same_disc d e h =
     disc2_same d e (same_place d.c e.c p.0) ((Decides-int_eq d.r2 e.r2).0 p.1)
 
 pub disc_same : (d e : Disc2) → d ≡ e → is_same_disc d e ≡ true
-disc_same d e h = both (is_same d.c e.c) (int_eq d.r2 e.r2) (place_same d.c e.c (ap (λ (t : Disc2). t.c) h)) ((Decides-int_eq d.r2 e.r2).1 (ap (λ (t : Disc2). t.r2) h))
+disc_same d e h = and_from (is_same d.c e.c) (int_eq d.r2 e.r2) (place_same d.c e.c (ap (λ (t : Disc2). t.c) h)) ((Decides-int_eq d.r2 e.r2).1 (ap (λ (t : Disc2). t.r2) h))
 
 -- ---- one line
 

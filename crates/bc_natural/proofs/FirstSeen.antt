@@ -1,17 +1,15 @@
--- Lists in first-seen order: those of some elements that pass a test, each with what stands for it, and each once.
-use Rattle.std.proofs.Common.{◌≡◌, ℕ, zero, suc, ◌⊎◌, inl, inr, Bool, true, false, cond, ◌||◌, List, [], ◌∷◌, ◌++◌, length, arith, refl, sym, ap, ◌∙◌, subst, if◌then◌else◌}
-use Rattle.std.specs.Prelude.{slice_get, Some, Contains, filter, All}
+-- Lists without repetitions: of the elements that pass a test what stands for each, once and in the order of the elements.
+use Rattle.std.proofs.Common.{◌≡◌, ℕ, zero, suc, ◌⊎◌, inl, inr, Bool, true, false, cond, not, ◌||◌, List, [], ◌∷◌, ◌++◌, arith, refl, sym, ap, ◌∙◌, subst, if◌then◌else◌}
+use Rattle.std.specs.Prelude.{◌↔◌, slice_get, Some, Contains, filter, All}
+use Rattle.std.specs.Cmp.{IsEquivalence}
 use Rattle.std.specs.List.{list_any, AllZip}
+use Rattle.std.proofs.lemmas.Bool.{cases_Bool, both_ways, or_left, or_right, or_from}
+use Rattle.std.proofs.lemmas.List.{append-nil}
+use Rattle.std.proofs.lemmas.List.Folds.{Any-from_list_any}
 use Rattle.std.proofs.lemmas.List.Elements.{All-nil, All-cons, All-head, All-tail, All-push, All-contains, All-filter, All-contains_itself, filter_passes, filter-append}
-use Rattle.std.proofs.lemmas.Option.{slice_get_within, get_or_from_slice_get, same_Some}
-use Rattle.bc_natural.specs.Curves.{with_new, first_seen}
-
-cases : (x : Bool) → (x ≡ true) ⊎ (x ≡ false)
-cases true = inl refl
-cases false = inr refl
-
-never : {P : Type 0} (x : Bool) → x ≡ true → x ≡ false → P
-never x h k = let q : true ≡ false = sym h ∙ k in cc
+use Rattle.std.proofs.lemmas.Option.{slice_get_within, get_or_from_slice_get}
+use Rattle.bc_natural.specs.Distinct.{distinct}
+use Rattle.bc_natural.specs.Noted.{with_new}
 
 -- ---- a list and one element
 
@@ -28,22 +26,11 @@ either x xs y (suc k, l, e) = inr (k, omega arith, e)
 pub contains_at : {X : Type 0} (xs : List X) (i : ℕ) (x : X) → slice_get xs i ≡ Some x → Contains xs x
 contains_at xs i x h = (i, slice_get_within xs i x h, get_or_from_slice_get xs i x x h)
 
--- an element of a list with one more at its end
-pushed : {X : Type 0} (xs : List X) (x : X) (i : ℕ) (y : X) → slice_get (xs ++ x ∷ []) i ≡ Some y → (slice_get xs i ≡ Some y) ⊎ ((i ≡ length xs) × (x ≡ y))
-pushed [] x zero y h = inr (refl, same_Some x y h)
-pushed [] x (suc i) y h = cc
-pushed (z ∷ zs) x zero y h = inl h
-pushed (z ∷ zs) x (suc i) y h =
-    elim (pushed zs x i y h) [
-      | inl k ↦ inl k
-      | inr k ↦ inr (ap suc k.0, k.1)
-    ]
-
 -- the elements that pass a test
 pub filtered : {X : Type 0} (test : X → Bool) (xs : List X) (x : X) → Contains xs x → test x ≡ true → Contains (filter test xs) x
 filtered test [] x (k, l, e) h = absurd (omega arith)
 filtered test (y ∷ ys) x m h =
-    elim (cases (test y)) [
+    elim (cases_Bool (test y)) [
       | inl t ↦
           subst (λ zs. Contains zs x) (sym (ap (λ b. cond b (y ∷ filter test ys) (filter test ys)) t))
           (elim (either y ys x m) [
@@ -53,7 +40,7 @@ filtered test (y ∷ ys) x m h =
       | inr f ↦
           subst (λ zs. Contains zs x) (sym (ap (λ b. cond b (y ∷ filter test ys) (filter test ys)) f))
           (elim (either y ys x m) [
-            | inl e ↦ never (test y) (ap test e ∙ h) f
+            | inl e ↦ absurd (both_ways (test y) f (ap test e ∙ h))
             | inr n ↦ filtered test ys x n h
           ])
     ]
@@ -62,21 +49,17 @@ filter_passed : {X : Type 0} (test : X → Bool) (xs : List X) (x : X) → test 
 filter_passed test xs x h = filter-append test xs (x ∷ []) ∙ ap (λ b. filter test xs ++ cond b (x ∷ []) []) h
 
 filter_failed : {X : Type 0} (test : X → Bool) (xs : List X) (x : X) → test x ≡ false → filter test (xs ++ x ∷ []) ≡ filter test xs
-filter_failed test xs x h = filter-append test xs (x ∷ []) ∙ ap (λ b. filter test xs ++ cond b (x ∷ []) []) h ∙ end (filter test xs)
-  where
-    end : {X : Type 0} (xs : List X) → xs ++ [] ≡ xs
-    end [] = refl
-    end (x ∷ xs) = ap (λ ys. x ∷ ys) (end xs)
+filter_failed test xs x h = filter-append test xs (x ∷ []) ∙ ap (λ b. filter test xs ++ cond b (x ∷ []) []) h ∙ append-nil (filter test xs)
 
 -- ---- two lists, place by place
 
-zipped : {X Y : Type 0} (R : X → Y → Type 0) (xs : List X) (ys : List Y) (x : X) (y : Y) → AllZip R xs ys → R x y → AllZip R (xs ++ x ∷ []) (ys ++ y ∷ [])
+pub zipped : {X Y : Type 0} (R : X → Y → Type 0) (xs : List X) (ys : List Y) (x : X) (y : Y) → AllZip R xs ys → R x y → AllZip R (xs ++ x ∷ []) (ys ++ y ∷ [])
 zipped R [] [] x y h r = (r, tt)
 zipped R [] (v ∷ vs) x y h r = absurd h
 zipped R (u ∷ us) [] x y h r = absurd h
 zipped R (u ∷ us) (v ∷ vs) x y h r = (h.0, zipped R us vs x y h.1 r)
 
-partner : {X Y : Type 0} (R : X → Y → Type 0) (xs : List X) (ys : List Y) (x : X) → AllZip R xs ys → Contains xs x → (y : Y) × Contains ys y × R x y
+pub partner : {X Y : Type 0} (R : X → Y → Type 0) (xs : List X) (ys : List Y) (x : X) → AllZip R xs ys → Contains xs x → (y : Y) × Contains ys y × R x y
 partner R [] ys x h (k, l, e) = absurd (omega arith)
 partner R (u ∷ us) [] x h m = absurd h
 partner R (u ∷ us) (v ∷ vs) x h m =
@@ -101,7 +84,23 @@ zip_same R one (x ∷ xs) (y ∷ ys) [] h k = absurd k
 zip_same R one (x ∷ xs) (y ∷ ys) (z ∷ zs) h k =
     ap (λ u. u ∷ ys) (one x y z h.0 k.0) ∙ ap (λ us. z ∷ us) (zip_same R one xs ys zs h.1 k.1)
 
--- ---- with one more element, unless it is there
+-- ---- each once
+
+-- a test that tells when keys are equal
+pub laws_by_key : {X K : Type 0} (same : X → X → Bool) (key : X → K) → ((x y : X) → (same x y ≡ true) ↔ (key x ≡ key y)) → IsEquivalence same
+laws_by_key {X} {K} same key tells = record {
+  refl = λ x. (tells x x).1 refl;
+  symm = λ x y. alike (same x y) (same y x) (λ e. turned x y e) (λ e. turned y x e);
+  congr = λ x y z e. alike (same x z) (same y z) (λ f. (tells y z).1 (sym ((tells x y).0 e) ∙ (tells x z).0 f)) (λ f. (tells x z).1 ((tells x y).0 e ∙ (tells y z).0 f));
+}
+  where
+    alike : (p q : Bool) → (p ≡ true → q ≡ true) → (q ≡ true → p ≡ true) → p ≡ q
+    alike true q f g = sym (f refl)
+    alike false true f g = g refl
+    alike false false f g = refl
+
+    turned : (x y : X) → same x y ≡ true → same y x ≡ true
+    turned x y e = (tells y x).1 (sym ((tells x y).0 e))
 
 module _ {X : Type 0} (same : X → X → Bool) where
   stays : (seen : List X) (x : X) → list_any (same x) seen ≡ true → with_new same seen x ≡ seen
@@ -112,117 +111,84 @@ module _ {X : Type 0} (same : X → X → Bool) where
 
   pub all_with : (P : X → Type 0) (seen : List X) (x : X) → All P seen → P x → All P (with_new same seen x)
   all_with P seen x a p =
-      elim (cases (list_any (same x) seen)) [
+      elim (cases_Bool (list_any (same x) seen)) [
         | inl t ↦ subst (All P) (sym (stays seen x t)) a
         | inr f ↦ subst (All P) (sym (grows seen x f)) (All-push P seen x a p)
       ]
 
-  all_seen : (P : X → Type 0) (seen xs : List X) → All P seen → All P xs → All P (first_seen same seen xs)
-  all_seen P seen [] a b = a
-  all_seen P seen (x ∷ xs) a b = all_seen P (with_new same seen x) xs (all_with P seen x a (All-head P x xs b)) (All-tail P x xs b)
+  -- those that are not the same as x
+  abbrev apart : X → List X → List X
+  apart x ys = filter (λ y. not (same x y)) ys
 
-  seen_push : (seen xs : List X) (x : X) → first_seen same seen (xs ++ x ∷ []) ≡ with_new same (first_seen same seen xs) x
-  seen_push seen [] x = refl
-  seen_push seen (y ∷ ys) x = seen_push (with_new same seen y) ys x
-
-  -- ---- what was found is found
-
-  any_left : (p : X → Bool) (xs ys : List X) → list_any p xs ≡ true → list_any p (xs ++ ys) ≡ true
-  any_left p [] ys h = cc
-  any_left p (x ∷ xs) ys h =
-      elim (cases (p x)) [
-        | inl t ↦ ap (λ b. b || list_any p (xs ++ ys)) t
-        | inr f ↦ ap (λ b. b || list_any p (xs ++ ys)) f ∙ any_left p xs ys (sym (ap (λ b. b || list_any p xs) f) ∙ h)
-      ]
-
-  any_right : (p : X → Bool) (xs : List X) (x : X) → p x ≡ true → list_any p (xs ++ x ∷ []) ≡ true
-  any_right p [] x h = ap (λ b. b || false) h
-  any_right p (y ∷ ys) x h =
-      elim (cases (p y)) [
-        | inl t ↦ ap (λ b. b || list_any p (ys ++ x ∷ [])) t
-        | inr f ↦ ap (λ b. b || list_any p (ys ++ x ∷ [])) f ∙ any_right p ys x h
-      ]
-
-  any_with : (p : X → Bool) (seen : List X) (x : X) → list_any p seen ≡ true → list_any p (with_new same seen x) ≡ true
-  any_with p seen x h =
-      elim (cases (list_any (same x) seen)) [
-        | inl t ↦ ap (list_any p) (stays seen x t) ∙ h
-        | inr f ↦ ap (list_any p) (grows seen x f) ∙ any_left p seen (x ∷ []) h
-      ]
-
-  any_seen : (p : X → Bool) (seen xs : List X) → list_any p seen ≡ true → list_any p (first_seen same seen xs) ≡ true
-  any_seen p seen [] h = h
-  any_seen p seen (x ∷ xs) h = any_seen p (with_new same seen x) xs (any_with p seen x h)
+  all_distinct : (P : X → Type 0) (xs : List X) → All P xs → All P (distinct same xs)
+  all_distinct P [] a = a
+  all_distinct P (x ∷ xs) a =
+      All-cons P x (apart x (distinct same xs)) (All-head P x xs a)
+      (All-filter (λ y. not (same x y)) P (distinct same xs) (all_distinct P xs (All-tail P x xs a)))
 
   found_in : (p : X → Bool) (xs : List X) → list_any p xs ≡ true → (x : X) × Contains xs x × (p x ≡ true)
-  found_in p [] h = cc
-  found_in p (x ∷ xs) h =
-      elim (cases (p x)) [
-        | inl t ↦ (x, here x xs, t)
-        | inr f ↦ let r = found_in p xs (sym (ap (λ b. b || list_any p xs) f) ∙ h) in (r.0, there x xs r.0 r.1, r.2)
-      ]
+  found_in p xs h = let a = Any-from_list_any p xs h in (a.1, (a.0, a.2, a.3), a.4)
 
-  module _ (own : (x : X) → same x x ≡ true) where
-    itself : (seen : List X) (x : X) → list_any (same x) (with_new same seen x) ≡ true
-    itself seen x =
-        elim (cases (list_any (same x) seen)) [
-          | inl t ↦ ap (list_any (same x)) (stays seen x t) ∙ t
-          | inr f ↦ ap (list_any (same x)) (grows seen x f) ∙ any_right (same x) seen x (own x)
+  module _ (laws : IsEquivalence same) where
+    -- what is not the same as y has as many like it among those that are not the same as y
+    still : (y x : X) (zs : List X) → same x y ≡ false → list_any (same x) (apart y zs) ≡ list_any (same x) zs
+    still y x [] h = refl
+    still y x (z ∷ zs) h =
+        elim (cases_Bool (same y z)) [
+          | inl t ↦
+              ap (λ b. list_any (same x) (cond (not b) (z ∷ apart y zs) (apart y zs))) t ∙ still y x zs h
+              ∙ sym (ap (λ b. b || list_any (same x) zs) (laws.symm x z ∙ sym (laws.congr y z x t) ∙ laws.symm y x ∙ h))
+          | inr f ↦
+              ap (λ b. list_any (same x) (cond (not b) (z ∷ apart y zs) (apart y zs))) f ∙ ap (λ b. same x z || b) (still y x zs h)
         ]
 
-    -- each element of the list has one that is the same among those seen
-    kept : (seen xs : List X) (x : X) → Contains xs x → list_any (same x) (first_seen same seen xs) ≡ true
-    kept seen [] x (k, l, e) = absurd (omega arith)
-    kept seen (y ∷ ys) x m =
-        elim (either y ys x m) [
-          | inl e ↦ any_seen (same x) (with_new same seen y) ys (subst (λ z. list_any (same z) (with_new same seen y) ≡ true) e (itself seen y))
-          | inr n ↦ kept (with_new same seen y) ys x n
+    -- each element of the list has one that is the same among the distinct ones
+    kept : (xs : List X) (x : X) → Contains xs x → list_any (same x) (distinct same xs) ≡ true
+    kept [] x (k, l, e) = absurd (omega arith)
+    kept (y ∷ ys) x m =
+        elim (cases_Bool (same x y)) [
+          | inl t ↦ or_left (same x y) (list_any (same x) (apart y (distinct same ys))) t
+          | inr f ↦
+              or_right (same x y) (list_any (same x) (apart y (distinct same ys)))
+              (elim (either y ys x m) [
+                | inl e ↦ absurd (both_ways (same x y) f (ap (same x) e ∙ laws.refl x))
+                | inr n ↦ still y x (distinct same ys) f ∙ kept ys x n
+              ])
         ]
 
-  -- ---- each once
+    unchanged : (y x : X) (ds : List X) → same y x ≡ true → apart y (with_new same ds x) ≡ apart y ds
+    unchanged y x ds h =
+        elim (cases_Bool (list_any (same x) ds)) [
+          | inl t ↦ ap (apart y) (stays ds x t)
+          | inr f ↦
+              ap (apart y) (grows ds x f) ∙ filter-append (λ z. not (same y z)) ds (x ∷ [])
+              ∙ ap (λ b. apart y ds ++ cond (not b) (x ∷ []) []) h ∙ append-nil (apart y ds)
+        ]
 
-  abbrev AreApart : List X → Type 0
-  AreApart xs = (i j : ℕ) (x y : X) → slice_get xs i ≡ Some x → slice_get xs j ≡ Some y → same x y ≡ true → i ≡ j
+    longer : (y x : X) (ds : List X) → same y x ≡ false → apart y (ds ++ x ∷ []) ≡ apart y ds ++ x ∷ []
+    longer y x ds h = filter-append (λ z. not (same y z)) ds (x ∷ []) ∙ ap (λ b. apart y ds ++ cond (not b) (x ∷ []) []) h
 
-  none_same : (seen : List X) (x : X) (i : ℕ) (y : X) → list_any (same x) seen ≡ false → slice_get seen i ≡ Some y → same x y ≡ false
-  none_same [] x i y h k = cc
-  none_same (z ∷ zs) x zero y h k =
-      elim (cases (same x z)) [
-        | inl t ↦ never (list_any (same x) (z ∷ zs)) (ap (λ b. b || list_any (same x) zs) t) h
-        | inr f ↦ subst (λ w. same x w ≡ false) (same_Some z y k) f
-      ]
-  none_same (z ∷ zs) x (suc i) y h k =
-      elim (cases (same x z)) [
-        | inl t ↦ never (list_any (same x) (z ∷ zs)) (ap (λ b. b || list_any (same x) zs) t) h
-        | inr f ↦ none_same zs x i y (sym (ap (λ b. b || list_any (same x) zs) f) ∙ h) k
-      ]
-
-  module _ (turned : (x y : X) → same x y ≡ true → same y x ≡ true) where
-    apart_push : (seen : List X) (x : X) → list_any (same x) seen ≡ false → AreApart seen → AreApart (seen ++ x ∷ [])
-    apart_push seen x f apart i j u v hi hj s =
-        elim (pushed seen x i u hi) [
-          | inl p ↦
-              elim (pushed seen x j v hj) [
-                | inl q ↦ apart i j u v p q s
-                | inr q ↦ never (same x u) (turned u x (ap (same u) q.1 ∙ s)) (none_same seen x i u f p)
+    after : (y x : X) (ds : List X) → y ∷ apart y (with_new same ds x) ≡ with_new same (y ∷ apart y ds) x
+    after y x ds =
+        elim (cases_Bool (same x y)) [
+          | inl s ↦
+              ap (λ zs. y ∷ zs) (unchanged y x ds (laws.symm y x ∙ s))
+              ∙ sym (stays (y ∷ apart y ds) x (or_left (same x y) (list_any (same x) (apart y ds)) s))
+          | inr s ↦
+              elim (cases_Bool (list_any (same x) ds)) [
+                | inl t ↦
+                    ap (λ zs. y ∷ apart y zs) (stays ds x t)
+                    ∙ sym (stays (y ∷ apart y ds) x (or_right (same x y) (list_any (same x) (apart y ds)) (still y x ds s ∙ t)))
+                | inr f ↦
+                    ap (λ zs. y ∷ apart y zs) (grows ds x f) ∙ ap (λ zs. y ∷ zs) (longer y x ds (laws.symm y x ∙ s))
+                    ∙ sym (grows (y ∷ apart y ds) x (or_from (same x y) (list_any (same x) (apart y ds)) s (still y x ds s ∙ f)))
               ]
-          | inr p ↦
-              elim (pushed seen x j v hj) [
-                | inl q ↦ never (same x v) (ap (λ w. same w v) p.1 ∙ s) (none_same seen x j v f q)
-                | inr q ↦ p.0 ∙ sym q.0
-              ]
         ]
 
-    apart_with : (seen : List X) (x : X) → AreApart seen → AreApart (with_new same seen x)
-    apart_with seen x a =
-        elim (cases (list_any (same x) seen)) [
-          | inl t ↦ subst AreApart (sym (stays seen x t)) a
-          | inr f ↦ subst AreApart (sym (grows seen x f)) (apart_push seen x f a)
-        ]
-
-    apart_seen : (seen xs : List X) → AreApart seen → AreApart (first_seen same seen xs)
-    apart_seen seen [] a = a
-    apart_seen seen (x ∷ xs) a = apart_seen (with_new same seen x) xs (apart_with seen x a)
+    -- one more element
+    distinct_push : (xs : List X) (x : X) → distinct same (xs ++ x ∷ []) ≡ with_new same (distinct same xs) x
+    distinct_push [] x = refl
+    distinct_push (y ∷ ys) x = ap (λ zs. y ∷ apart y zs) (distinct_push ys x) ∙ after y x (distinct same ys)
 
 -- ---- the table: of each element that passes the test what R says of it, each once
 
@@ -230,17 +196,17 @@ module _ {E X : Type 0} (test : E → Bool) (R : E → X → Type 0) (same : X �
   pub record IsTableOf (es : List E) (xs : List X) : Type 0 where
     pub found : List X
     pub of : AllZip R (filter test es) found
-    pub is : xs ≡ first_seen same [] found
+    pub is : xs ≡ distinct same found
 
   pub table_nil : IsTableOf [] []
   table_nil = record { found = []; of = tt; is = refl }
 
   -- one more element
-  pub table_more : (es : List E) (xs : List X) (e : E) (x : X) → IsTableOf es xs → test e ≡ true → R e x → IsTableOf (es ++ e ∷ []) (with_new same xs x)
-  table_more es xs e x t h r = record {
+  pub table_more : IsEquivalence same → (es : List E) (xs : List X) (e : E) (x : X) → IsTableOf es xs → test e ≡ true → R e x → IsTableOf (es ++ e ∷ []) (with_new same xs x)
+  table_more laws es xs e x t h r = record {
     found = t.found ++ x ∷ [];
     of = subst (λ ds. AllZip R ds (t.found ++ x ∷ [])) (sym (filter_passed test es e h)) (zipped R (filter test es) t.found e x t.of r);
-    is = ap (λ zs. with_new same zs x) t.is ∙ sym (seen_push same [] t.found x);
+    is = ap (λ zs. with_new same zs x) t.is ∙ sym (distinct_push same laws t.found x);
   }
 
   pub table_kept : (es : List E) (xs : List X) (e : E) → IsTableOf es xs → test e ≡ false → IsTableOf (es ++ e ∷ []) xs
@@ -251,10 +217,10 @@ module _ {E X : Type 0} (test : E → Bool) (R : E → X → Type 0) (same : X �
   }
 
   -- of each element the table has what is the same
-  pub table_has : ((x : X) → same x x ≡ true) → (es : List E) (xs : List X) (e : E) → IsTableOf es xs → Contains es e → test e ≡ true → (y : X) × R e y × (x : X) × Contains xs x × (same y x ≡ true)
-  table_has own es xs e t m h =
+  pub table_has : IsEquivalence same → (es : List E) (xs : List X) (e : E) → IsTableOf es xs → Contains es e → test e ≡ true → (y : X) × R e y × (x : X) × Contains xs x × (same y x ≡ true)
+  table_has laws es xs e t m h =
       let p = partner R (filter test es) t.found e t.of (filtered test es e m h) in
-      let k : list_any (same p.0) xs ≡ true = ap (list_any (same p.0)) t.is ∙ kept same own [] t.found p.0 p.1 in
+      let k : list_any (same p.0) xs ≡ true = ap (list_any (same p.0)) t.is ∙ kept same laws t.found p.0 p.1 in
       let f = found_in same (same p.0) xs k in
       (p.0, p.2, f.0, f.1, f.2)
 
@@ -264,7 +230,7 @@ module _ {E X : Type 0} (test : E → Bool) (R : E → X → Type 0) (same : X �
       let P = λ (e : E). Contains es e × (test e ≡ true) in
       let Q = λ (y : X). (e : E) × P e × R e y in
       let a : All P (filter test es) = all_both (Contains es) (λ e. test e ≡ true) (filter test es) (All-filter test (Contains es) es (All-contains_itself es)) (filter_passes test es) in
-      let b : All Q xs = subst (All Q) (sym t.is) (all_seen same Q [] t.found (All-nil Q) (partners R P (filter test es) t.found t.of a)) in
+      let b : All Q xs = subst (All Q) (sym t.is) (all_distinct same Q t.found (partners R P (filter test es) t.found t.of a)) in
       let r = All-contains Q xs x b (contains_at xs i x h) in
       (r.0, r.1.0, r.1.1, r.2)
     where
@@ -274,11 +240,4 @@ module _ {E X : Type 0} (test : E → Bool) (R : E → X → Type 0) (same : X �
   -- elements have one table
   pub table_same : ((e : E) (x y : X) → R e x → R e y → x ≡ y) → (es : List E) (xs ys : List X) → IsTableOf es xs → IsTableOf es ys → xs ≡ ys
   table_same one es xs ys t u =
-      t.is ∙ ap (first_seen same []) (zip_same R one (filter test es) t.found u.found t.of u.of) ∙ sym u.is
-
-  -- which has nothing twice
-  pub table_apart : ((x y : X) → same x y ≡ true → same y x ≡ true) → (es : List E) (xs : List X) → IsTableOf es xs → AreApart same xs
-  table_apart turned es xs t = subst (AreApart same) (sym t.is) (apart_seen same turned [] t.found (λ i j x y h k s. absurd (none i x h)))
-    where
-      none : (i : ℕ) (x : X) → slice_get [] i ≡ Some x → ⊥
-      none i x h = cc
+      t.is ∙ ap (distinct same) (zip_same R one (filter test es) t.found u.found t.of u.of) ∙ sym u.is

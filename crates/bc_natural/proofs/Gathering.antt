@@ -13,13 +13,13 @@ use Rattle.bc_space.specs.LinesThrough.{IsLineThrough}
 use Rattle.bc_solid.specs.declared.element.Element.{Element}
 use Rattle.bc_solid.specs.declared.element.Element.TheVariants.{Edge, Arc}
 use Rattle.bc_solid.specs.Closed.{start_of, end_of, IsProper, IsProfile}
-use Rattle.bc_natural.specs.Curves.{Curves, AreCurves, has_line, is_arc, IsLineOf, IsDiscOf, is_same_line, is_same_disc, with_new}
-use Rattle.bc_natural.specs.Noted.{AddsLine, AddsDisc, Adds}
+use Rattle.bc_natural.specs.Curves.{Curves, AreCurves, has_line, is_arc, IsLineOf, IsDiscOf, is_same_line, is_same_disc}
+use Rattle.bc_natural.specs.Noted.{with_new, AddsLine, AddsDisc, Adds}
 use Rattle.bc_natural.specs.Limits.{AreSized}
 use Rattle.bc_natural.proofs.FirstSeen.{contains_at, all_with, table_nil, table_more, table_kept}
 use Rattle.bc_natural.proofs.Canonical.{same_place}
 use Rattle.bc_natural.proofs.Lists.{front_more}
-use Rattle.bc_natural.proofs.Table.{AreLines, AreDiscs, same_entry, lines_part, discs_part, whole_table}
+use Rattle.bc_natural.proofs.Table.{AreLines, AreDiscs, same_entry, line_laws, disc_laws, lines_part, discs_part, whole_table}
 
 -- what holds of a state that a call left, where it succeeded
 after_both : {T E : Type 0} (P Q S : Type 0) (r : Result T E) → (P → Q → S) → OnOk r P → OnOk r Q → OnOk r S
@@ -91,7 +91,7 @@ more_lines es e t u h (inl (s, k)) =
     subst (AreLines (es ++ e ∷ [])) (sym (ap (λ (c : Curves). c.lines) k)) (table_kept has_line IsLineOf same_entry es t.lines e h (ap not s))
 more_lines es e t u h (inr (s, k)) =
     subst (AreLines (es ++ e ∷ [])) (sym k.lines)
-    (table_more has_line IsLineOf same_entry es t.lines e (k.line, start_of e) h (ap not s) (record { line = k.through; origin = refl }))
+    (table_more has_line IsLineOf same_entry line_laws es t.lines e (k.line, start_of e) h (ap not s) (record { line = k.through; origin = refl }))
 
 same_discs : (a b : V2) (t u : Curves) → AddsLine a b t u → u.discs ≡ t.discs
 same_discs a b t u (inl (s, k)) = ap (λ (c : Curves). c.discs) k
@@ -105,7 +105,7 @@ more es (Arc a b c ccw) t u h (v, k, d) =
     whole_table (es ++ Arc a b c ccw ∷ []) u
     (subst (AreLines (es ++ Arc a b c ccw ∷ [])) (sym d.lines) (more_lines es (Arc a b c ccw) t v (lines_part es t h) k))
     (subst (AreDiscs (es ++ Arc a b c ccw ∷ [])) (sym (d.discs ∙ ap (λ xs. with_new is_same_disc xs d.disc) (same_discs a b t v k)))
-    (table_more is_arc IsDiscOf is_same_disc es t.discs (Arc a b c ccw) d.disc (discs_part es t h) refl (d.centre, d.radius)))
+    (table_more is_arc IsDiscOf is_same_disc disc_laws es t.discs (Arc a b c ccw) d.disc (discs_part es t h) refl (d.centre, d.radius)))
 
 pub curves_more : (es : List Element) (i : ℕ) (e : Element) (t u : Curves) → slice_get es i ≡ Some e → AreCurves (take i es) t → Adds e t u → AreCurves (take (i + 1) es) u
 curves_more es i e t u h a k = subst (λ ds. AreCurves ds u) (sym (front_more es i e h)) (more (take i es) e t u a k)

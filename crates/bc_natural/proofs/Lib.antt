@@ -7,6 +7,6 @@ pub mod Lists
 pub mod Masks
 pub mod PlaneTables
 pub mod SamePlanes
-pub mod Spans
+pub mod Spans2
 pub mod Spans3
 pub mod Table

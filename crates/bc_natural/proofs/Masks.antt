@@ -3,7 +3,7 @@
 use Rattle.std.specs.Prelude.{◌≡◌, ◌↔◌, ℕ, zero, suc, ◌+◌, ◌*◌, ◌/◌, ◌^◌, ◌<◌, ◌-◌, List, [], ◌∷◌, length, Some, slice_get}
 use Rattle.std.specs.Int.{bit_at}
 use Rattle.std.proofs.Common.{refl, sym, ap, ◌∙◌, arith, pow-suc}
-use Rattle.std.proofs.lemmas.Nat.{same_from_place, mul-add-lt, pow-add}
+use Rattle.std.proofs.lemmas.Nat.{same_from_place}
 use Rattle.std.proofs.lemmas.Nat.Bits.{bit_at_lowest, bit_at-suc, bit_at_cat_low, bit_at_cat_high}
 use Rattle.std.proofs.lemmas.List.{length-map}
 use Rattle.std.proofs.lemmas.Option.{slice_get_within}
@@ -72,7 +72,7 @@ module _ {P H : Type 0} (side : H → P → Side) where
 
 -- ---- the half-spaces of a table
 
-lines_below : (t : Curves) (p : P2) → mask_of line_side (lines_of t) p < 2 ^ length t.lines
+pub lines_below : (t : Curves) (p : P2) → mask_of line_side (lines_of t) p < 2 ^ length t.lines
 lines_below t p =
     let e : length (lines_of t) ≡ length t.lines = length-map t.lines (λ (e : Line2 × V2). e.0) in
     rw (← e) (mask_below line_side (lines_of t) p)
@@ -103,11 +103,3 @@ same_parts t p m set h e =
     let whole : set * 2 ^ length t.lines + m ≡ mask_of disc_side t.discs p * 2 ^ length t.lines + mask_of line_side (lines_of t) p = grind arith in
     let r = same_from_place set m (mask_of disc_side t.discs p) (mask_of line_side (lines_of t) p) (2 ^ length t.lines) h (lines_below t p) whole in
     (r.1, r.0)
-
-pub curve_mask_below : (t : Curves) (p : P2) → curve_mask t p < 2 ^ (length t.lines + length t.discs)
-curve_mask_below t p =
-    let w : 2 ^ (length t.lines + length t.discs) ≡ 2 ^ length t.lines * 2 ^ length t.discs = pow-add 2 (length t.lines) (length t.discs) in
-    let b : mask_of disc_side t.discs p * 2 ^ length t.lines + mask_of line_side (lines_of t) p < 2 ^ length t.lines * 2 ^ length t.discs =
-    mul-add-lt (mask_of disc_side t.discs p) (2 ^ length t.lines) (mask_of line_side (lines_of t) p) (2 ^ length t.discs) (mask_below disc_side t.discs p) (lines_below t p) in
-    let s = two_parts t p in
-    omega arith

@@ -1,7 +1,8 @@
--- What a table of faces says of them, and they of it: which planes it has, each once, with origins that lie on them, and on
+-- What a table of faces says of them, and they of it: which planes it has, with origins that lie on them, and on
 -- which sides of the faces' planes points are.
-use Rattle.std.proofs.Common.{◌≡◌, ◌≢◌, ℕ, zero, suc, ◌+◌, ◌<◌, [], ◌∷◌, ◌++◌, List, Bool, true, length, take, get_or, arith, refl, sym, ap, ◌∙◌, subst}
-use Rattle.std.specs.Prelude.{◌↔◌, slice_get, Some, Contains, filter, All, AllPairs}
+use Rattle.std.proofs.Common.{◌≡◌, ◌≢◌, ℕ, zero, suc, ◌+◌, ◌<◌, [], ◌∷◌, ◌++◌, List, Bool, true, length, take, get_or, refl, sym, ap, ◌∙◌, subst}
+use Rattle.std.specs.Prelude.{◌↔◌, slice_get, Some, Contains, filter, All}
+use Rattle.std.specs.Cmp.{IsEquivalence}
 use Rattle.std.specs.List.{AllZip}
 use Rattle.std.proofs.lemmas.List.Elements.{All-nil, All-contains}
 use Rattle.std.proofs.lemmas.Option.{slice_get-get_or, same_Some}
@@ -15,10 +16,10 @@ use Rattle.bc_space.specs.declared.side.Side.TheVariants.{Below, On, Above}
 use Rattle.bc_space.specs.Sides.{side_of_value}
 use Rattle.bc_space.specs.Planes.{plane_value, plane_side, IsSizedPlane}
 use Rattle.bc_solid.specs.Facets.{Facet, IsFacet, IsSolid, IsOnPlane, IsOff3, AreAlike3}
-use Rattle.bc_natural.specs.Curves.{with_new}
+use Rattle.bc_natural.specs.Noted.{with_new}
 use Rattle.bc_natural.specs.Planes.{Planes, planes_of, IsPlaneOf, is_same_plane, ArePlanes, ArePlanesSized, plane_mask}
 use Rattle.bc_natural.proofs.FaceCorners.{facet_at}
-use Rattle.bc_natural.proofs.FirstSeen.{IsTableOf, contains_at, all_with, table_nil, table_more, table_has, table_from, table_same, table_apart}
+use Rattle.bc_natural.proofs.FirstSeen.{IsTableOf, contains_at, all_with, laws_by_key, table_nil, table_more, table_has, table_from, table_same}
 use Rattle.bc_natural.proofs.Lists.{front_more, place_has}
 use Rattle.bc_natural.proofs.Masks.{same_bits}
 use Rattle.bc_natural.proofs.SamePlanes.{same_plane, plane_same}
@@ -45,6 +46,9 @@ face_table fs t h = record { found = h.found; of = subst (λ gs. AllZip IsPlaneO
 planes_from_table : (fs : List Facet) (t : Planes) → IsFaceTable fs t → ArePlanes fs t
 planes_from_table fs t h = record { found = h.found; of_faces = subst (λ gs. AllZip IsPlaneOf gs h.found) (filter_each fs) h.of; planes = h.is }
 
+plane_laws : IsEquivalence same_plane_entry
+plane_laws = laws_by_key same_plane_entry (λ g. g.0) (λ g h. (same_plane g.0 h.0, plane_same g.0 h.0))
+
 -- ---- one more face
 
 pub planes_nil : (t : Planes) → t ≡ [] → ArePlanes [] t
@@ -58,7 +62,7 @@ planes_more fs i h o t u l plane origin k e =
     let of : IsPlaneOf f.0 (h, o) = record { plane = plane f.0 f.1; origin = origin f.0 f.1 } in
     subst (λ gs. ArePlanes gs u) (sym (front_more fs i f.0 f.1))
     (subst (ArePlanes (take i fs ++ f.0 ∷ [])) (sym e)
-    (planes_from_table (take i fs ++ f.0 ∷ []) (with_new same_plane_entry t (h, o)) (table_more each_face IsPlaneOf same_plane_entry (take i fs) t f.0 (h, o) (face_table (take i fs) t k) refl of)))
+    (planes_from_table (take i fs ++ f.0 ∷ []) (with_new same_plane_entry t (h, o)) (table_more each_face IsPlaneOf same_plane_entry plane_laws (take i fs) t f.0 (h, o) (face_table (take i fs) t k) refl of)))
 
 -- ---- sizes
 
@@ -81,7 +85,7 @@ planes_sized_more fs i h o t u solid l plane near s e =
 -- the table has the plane of each face
 pub plane_in_table : (fs : List Facet) (t : Planes) → ArePlanes fs t → (f : Facet) → Contains fs f → Contains (planes_of t) f.plane
 plane_in_table fs t h f m =
-    let r = table_has each_face IsPlaneOf same_plane_entry (λ g. plane_same g.0 g.0 refl) fs t f (face_table fs t h) m refl in
+    let r = table_has each_face IsPlaneOf same_plane_entry plane_laws fs t f (face_table fs t h) m refl in
     subst (Contains (planes_of t)) (sym (same_plane r.0.0 r.2.0 r.4) ∙ r.1.plane) (contains_mapped (λ g. g.0) t r.2 r.3)
 
 -- each of its planes, with its origin, is that of a face
@@ -102,28 +106,6 @@ pub faces_have : (P : Plane3 → Type 0) (fs : List Facet) (t : Planes) → AreP
 faces_have P fs t h a i d l =
     let f = get_or fs i d in
     All-contains P (planes_of t) f.plane a (plane_in_table fs t h f (contains_at fs i f (slice_get-get_or fs i d l)))
-
-entry_turned : (g h : Plane3 × V3) → same_plane_entry g h ≡ true → same_plane_entry h g ≡ true
-entry_turned g h e = plane_same h.0 g.0 (sym (same_plane g.0 h.0 e))
-
--- no plane stands in it twice
-pub planes_once : (fs : List Facet) (t : Planes) → ArePlanes fs t → (i j : ℕ) (h : Plane3) → slice_get (planes_of t) i ≡ Some h → slice_get (planes_of t) j ≡ Some h → i ≡ j
-planes_once fs t h i j l p q =
-    let g = entry_at t i l p in
-    let k = entry_at t j l q in
-    table_apart each_face IsPlaneOf same_plane_entry entry_turned fs t (face_table fs t h) i j g.0 k.0 g.1 k.1 (plane_same g.0.0 k.0.0 (g.2 ∙ sym k.2))
-
-pub planes_differ : (fs : List Facet) (t : Planes) → ArePlanes fs t → AllPairs (λ g h. g ≢ h) (planes_of t)
-planes_differ fs t h i j d l m e =
-    let p = slice_get-get_or (planes_of t) i d (below i j (length (planes_of t)) l m) ∙ ap Some e in
-    let same = planes_once fs t h i j (get_or (planes_of t) j d) p (slice_get-get_or (planes_of t) j d m) in
-    apart i j l same
-  where
-    below : (i j n : ℕ) → i < j → j < n → i < n
-    below i j n l m = omega arith
-
-    apart : (i j : ℕ) → i < j → i ≡ j → ⊥
-    apart i j l e = absurd (omega arith)
 
 -- ---- origins
 

@@ -14,7 +14,7 @@ use Rattle.bc_solid.specs.Facets.{Facet, IsFacet}
 use Rattle.bc_natural.specs.declared.span.Extent3.{Extent3}
 use Rattle.bc_natural.specs.Spans.{AreSpans, AreHulls}
 use Rattle.bc_natural.specs.Planes.{IsNearBox3}
-use Rattle.bc_natural.proofs.Spans.{span_first, span_more, span_all}
+use Rattle.bc_natural.proofs.Spans2.{span_first, span_more, span_all}
 
 -- ---- of whatever numbers come from
 

@@ -1,6 +1,7 @@
--- What a table of elements says of them, and they of it: which lines and discs it has, each once.
-use Rattle.std.proofs.Common.{◌≡◌, ℕ, zero, suc, [], ◌∷◌, List, Bool, true, inl, inr, refl, sym, ap, ◌∙◌, subst}
+-- What a table of elements says of them, and they of it: which lines and discs it has.
+use Rattle.std.proofs.Common.{◌≡◌, ℕ, zero, suc, [], ◌∷◌, List, Bool, true, inl, inr, refl, ap, ◌∙◌, subst}
 use Rattle.std.specs.Prelude.{slice_get, Some, Contains, map}
+use Rattle.std.specs.Cmp.{IsEquivalence}
 use Rattle.bc_num.specs.declared.v2.V2.{V2}
 use Rattle.bc_num.specs.declared.disc2.Disc2.{Disc2}
 use Rattle.bc_space.specs.declared.line2.Line2.{Line2}
@@ -8,7 +9,7 @@ use Rattle.bc_space.specs.LinesThrough.{IsLineThrough}
 use Rattle.bc_solid.specs.declared.element.Element.{Element}
 use Rattle.bc_solid.specs.Closed.{start_of, end_of}
 use Rattle.bc_natural.specs.Curves.{Curves, AreCurves, lines_of, has_line, is_arc, IsLineOf, IsDiscOf, is_same_line, is_same_disc}
-use Rattle.bc_natural.proofs.FirstSeen.{IsTableOf, here, there, either, table_has, table_from, table_same, table_apart}
+use Rattle.bc_natural.proofs.FirstSeen.{IsTableOf, here, there, either, laws_by_key, table_has, table_from, table_same}
 use Rattle.bc_natural.proofs.Canonical.{same_line, line_same, same_disc, disc_same, one_entry, one_disc}
 
 -- ---- the two halves of a table
@@ -31,10 +32,13 @@ discs_part es t h = record { found = h.seen; of = h.of_discs; is = h.discs }
 pub whole_table : (es : List Element) (t : Curves) → AreLines es t.lines → AreDiscs es t.discs → AreCurves es t
 whole_table es t h k = record { found = h.found; seen = k.found; of_lines = h.of; of_discs = k.of; lines = h.is; discs = k.is }
 
--- ---- lines
+pub line_laws : IsEquivalence same_entry
+line_laws = laws_by_key same_entry (λ g. g.0) (λ g h. (same_line g.0 h.0, line_same g.0 h.0))
 
-entry_turned : (g h : Line2 × V2) → same_entry g h ≡ true → same_entry h g ≡ true
-entry_turned g h e = line_same h.0 g.0 (sym (same_line g.0 h.0 e))
+pub disc_laws : IsEquivalence is_same_disc
+disc_laws = laws_by_key is_same_disc (λ d. d) (λ d e. (same_disc d e, disc_same d e))
+
+-- ---- lines
 
 pub contains_mapped : {X Y : Type 0} (f : X → Y) (xs : List X) (x : X) → Contains xs x → Contains (map f xs) (f x)
 contains_mapped f [] x (k, l, e) = (k, l, refl)
@@ -47,7 +51,7 @@ contains_mapped f (y ∷ ys) x m =
 -- the table has the line of each element that has one
 pub line_in_table : (es : List Element) (t : Curves) → AreCurves es t → (e : Element) → Contains es e → has_line e ≡ true → (l : Line2) × Contains (lines_of t) l × IsLineThrough (start_of e) (end_of e) l
 line_in_table es t h e m y =
-    let r = table_has has_line IsLineOf same_entry (λ g. line_same g.0 g.0 refl) es t.lines e (lines_part es t h) m y in
+    let r = table_has has_line IsLineOf same_entry line_laws es t.lines e (lines_part es t h) m y in
     let c : Contains (lines_of t) r.2.0 = contains_mapped (λ g. g.0) t.lines r.2 r.3 in
     (r.2.0, c, subst (IsLineThrough (start_of e) (end_of e)) (same_line r.0.0 r.2.0 r.4) r.1.line)
 
@@ -61,22 +65,12 @@ entry_at [] i l h = cc
 entry_at (g ∷ gs) zero l h = (g, refl, cc)
 entry_at (g ∷ gs) (suc i) l h = entry_at gs i l h
 
--- no line stands in it twice
-pub lines_once : (es : List Element) (t : Curves) → AreCurves es t → (i j : ℕ) (l : Line2) → slice_get (lines_of t) i ≡ Some l → slice_get (lines_of t) j ≡ Some l → i ≡ j
-lines_once es t h i j l p q =
-    let g = entry_at t.lines i l p in
-    let k = entry_at t.lines j l q in
-    table_apart has_line IsLineOf same_entry entry_turned es t.lines (lines_part es t h) i j g.0 k.0 g.1 k.1 (line_same g.0.0 k.0.0 (g.2 ∙ sym k.2))
-
 -- ---- discs
-
-disc_turned : (d e : Disc2) → is_same_disc d e ≡ true → is_same_disc e d ≡ true
-disc_turned d e h = disc_same e d (sym (same_disc d e h))
 
 -- the table has the disc of each arc
 pub disc_in_table : (es : List Element) (t : Curves) → AreCurves es t → (e : Element) → Contains es e → is_arc e ≡ true → (d : Disc2) × Contains t.discs d × IsDiscOf e d
 disc_in_table es t h e m y =
-    let r = table_has is_arc IsDiscOf is_same_disc (λ d. disc_same d d refl) es t.discs e (discs_part es t h) m y in
+    let r = table_has is_arc IsDiscOf is_same_disc disc_laws es t.discs e (discs_part es t h) m y in
     (r.2, r.3, subst (IsDiscOf e) (same_disc r.0 r.2 r.4) r.1)
 
 -- each of its discs is that of an arc
@@ -84,10 +78,6 @@ pub disc_from_element : (es : List Element) (t : Curves) → AreCurves es t → 
 disc_from_element es t h i d k =
     let r = table_from is_arc IsDiscOf is_same_disc es t.discs i d (discs_part es t h) k in
     (r.0, r.1, r.3)
-
--- no disc stands in it twice
-pub discs_once : (es : List Element) (t : Curves) → AreCurves es t → (i j : ℕ) (d : Disc2) → slice_get t.discs i ≡ Some d → slice_get t.discs j ≡ Some d → i ≡ j
-discs_once es t h i j d p q = table_apart is_arc IsDiscOf is_same_disc disc_turned es t.discs (discs_part es t h) i j d d p q (disc_same d d refl)
 
 -- ---- elements have one table
 

@@ -1,7 +1,7 @@
 -- The half-planes and discs of contours, each once: the canonical lines of edges and chords in the order of the elements,
 -- each with the start of the first element that has it as origin, and behind them the discs of the arcs.
-use Rattle.std.specs.Prelude.{◌≡◌, Bool, true, false, not, ◌&&◌, List, [], ◌∷◌, ◌++◌, map, filter, if◌then◌else◌}
-use Rattle.std.specs.List.{list_any, AllZip}
+use Rattle.std.specs.Prelude.{◌≡◌, Bool, true, false, not, ◌&&◌, List, map, filter}
+use Rattle.std.specs.List.{AllZip}
 use Rattle.std.specs.Ordering.{int_eq}
 use Rattle.bc_num.specs.declared.v2.V2.{V2}
 use Rattle.bc_num.specs.declared.disc2.Disc2.{Disc2}
@@ -11,6 +11,7 @@ use Rattle.bc_space.specs.LinesThrough.{IsLineThrough}
 use Rattle.bc_solid.specs.declared.element.Element.{Element}
 use Rattle.bc_solid.specs.declared.element.Element.TheVariants.{Edge, Arc}
 use Rattle.bc_solid.specs.Closed.{start_of, end_of}
+use Rattle.bc_natural.specs.Distinct.{distinct}
 
 -- the table: lines with their origins, and discs
 pub record Curves : Type 0 where
@@ -48,15 +49,6 @@ is_same_line g h = int_eq g.a h.a && (int_eq g.b h.b && int_eq g.d h.d)
 abbrev pub is_same_disc : Disc2 → Disc2 → Bool
 is_same_disc d e = is_same d.c e.c && int_eq d.r2 e.r2
 
--- the list with x at its end, unless it has one that is the same
-abbrev pub with_new : {X : Type 0} → (X → X → Bool) → List X → X → List X
-with_new same seen x = if list_any (same x) seen then seen else seen ++ x ∷ []
-
--- those of the second list behind those of the first, each once and where it is seen first
-abbrev pub first_seen : {X : Type 0} → (X → X → Bool) → List X → List X → List X
-first_seen same seen [] = seen
-first_seen same seen (x ∷ xs) = first_seen same (with_new same seen x) xs
-
 -- the table of the elements
 pub record AreCurves (es : List Element) (t : Curves) : Type 0 where
   -- the lines of all elements that have one, and the discs of all arcs
@@ -64,5 +56,5 @@ pub record AreCurves (es : List Element) (t : Curves) : Type 0 where
   pub seen : List Disc2
   pub of_lines : AllZip IsLineOf (filter has_line es) found
   pub of_discs : AllZip IsDiscOf (filter is_arc es) seen
-  pub lines : t.lines ≡ first_seen (λ g h. is_same_line g.0 h.0) [] found
-  pub discs : t.discs ≡ first_seen is_same_disc [] seen
+  pub lines : t.lines ≡ distinct (λ g h. is_same_line g.0 h.0) found
+  pub discs : t.discs ≡ distinct is_same_disc seen

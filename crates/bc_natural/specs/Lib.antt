@@ -1,3 +1,4 @@
+pub mod Distinct
 pub mod Curves
 pub mod Noted
 pub mod Spans

@@ -1,5 +1,5 @@
 -- How many half-spaces an input may have, and the sizes of their numbers.
-use Rattle.std.specs.Prelude.{◌≡◌, ◌≤◌, ◌<◌, ℕ, List, length}
+use Rattle.std.specs.Prelude.{◌≡◌, ◌≤◌, ◌<◌, List, length}
 use Rattle.std.specs.List.{All}
 use Rattle.bc_num.specs.declared.box2.Box2.{Box2}
 use Rattle.bc_algebra.specs.Within.{IsWithin}
@@ -8,14 +8,9 @@ use Rattle.bc_space.specs.Lines.{IsSizedLine}
 use Rattle.bc_space.specs.Discs.{IsSizedDisc}
 use Rattle.bc_solid.specs.declared.element.Element.{Element}
 use Rattle.bc_natural.specs.Curves.{Curves, AreCurves}
+use Rattle.bc_natural.specs.declared.limits.TheConstants.{MOST_LINES, MOST_DISCS}
 use Rattle.bc_natural.specs.declared.nat_fault.NatFault.{NatFault}
 use Rattle.bc_natural.specs.declared.nat_fault.NatFault.TheVariants.{TooManyPlanes, TooManyLines, TooManyDiscs, Memory}
-
-abbrev pub most_lines : ℕ
-most_lines = 24
-
-abbrev pub most_discs : ℕ
-most_discs = 8
 
 -- the numbers are of the sizes that sides take
 pub record AreSized (t : Curves) : Type 0 where
@@ -24,14 +19,14 @@ pub record AreSized (t : Curves) : Type 0 where
   pub discs : All IsSizedDisc t.discs
 
 pub record AreFew (t : Curves) : Type 0 where
-  pub lines : length t.lines ≤ most_lines
-  pub discs : length t.discs ≤ most_discs
+  pub lines : length t.lines ≤ MOST_LINES
+  pub discs : length t.discs ≤ MOST_DISCS
 
 -- the first limit that the elements pass, with their number; or there was no memory
 abbrev pub IsLimitFault : List Element → NatFault → Type 0
 IsLimitFault es (TooManyPlanes n) = ⊥
-IsLimitFault es (TooManyLines n) = (t : Curves) × AreCurves es t × (length t.lines ≡ n) × (most_lines < n)
-IsLimitFault es (TooManyDiscs n) = (t : Curves) × AreCurves es t × (length t.lines ≤ most_lines) × (length t.discs ≡ n) × (most_discs < n)
+IsLimitFault es (TooManyLines n) = (t : Curves) × AreCurves es t × (length t.lines ≡ n) × (MOST_LINES < n)
+IsLimitFault es (TooManyDiscs n) = (t : Curves) × AreCurves es t × (length t.lines ≤ MOST_LINES) × (length t.discs ≡ n) × (MOST_DISCS < n)
 IsLimitFault es Memory = Unit {0}
 
 -- the elements pass no limit

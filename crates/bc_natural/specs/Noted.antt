@@ -1,5 +1,6 @@
 -- What one more element adds to a table: its line, then its disc, each unless it is there.
-use Rattle.std.specs.Prelude.{◌≡◌, ◌⊎◌, true, false}
+use Rattle.std.specs.Prelude.{◌≡◌, ◌⊎◌, Bool, true, false, List, [], ◌∷◌, ◌++◌, if◌then◌else◌}
+use Rattle.std.specs.List.{list_any}
 use Rattle.bc_num.specs.declared.v2.V2.{V2}
 use Rattle.bc_num.specs.declared.disc2.Disc2.{Disc2}
 use Rattle.bc_num.specs.Measures.{square_between, is_same}
@@ -7,7 +8,11 @@ use Rattle.bc_space.specs.declared.line2.Line2.{Line2}
 use Rattle.bc_space.specs.LinesThrough.{IsLineThrough}
 use Rattle.bc_solid.specs.declared.element.Element.{Element}
 use Rattle.bc_solid.specs.declared.element.Element.TheVariants.{Edge, Arc}
-use Rattle.bc_natural.specs.Curves.{Curves, is_same_line, is_same_disc, with_new}
+use Rattle.bc_natural.specs.Curves.{Curves, is_same_line, is_same_disc}
+
+-- the list with x at its end, unless it has one that is the same
+abbrev pub with_new : {X : Type 0} → (X → X → Bool) → List X → X → List X
+with_new same seen x = if list_any (same x) seen then seen else seen ++ x ∷ []
 
 -- the table `new` is `old` with the line through a and b at its end, with a as origin, unless `old` has that line
 pub record AddsLineOf (a b : V2) (old new : Curves) : Type 0 where

@@ -1,6 +1,6 @@
 -- The planes of a mesh, each once: the canonical planes of its faces in the order of the faces, each with the first corner
 -- of the first face that lies on it as origin.
-use Rattle.std.specs.Prelude.{◌≡◌, ◌≤◌, ◌<◌, ℕ, Bool, ◌&&◌, List, [], map, length, Some, slice_get}
+use Rattle.std.specs.Prelude.{◌≡◌, ◌≤◌, ◌<◌, ℕ, Bool, ◌&&◌, List, map, length, Some, slice_get}
 use Rattle.std.specs.List.{All, AllZip}
 use Rattle.std.specs.Ordering.{int_eq}
 use Rattle.bc_algebra.specs.Within.{IsWithin}
@@ -12,7 +12,8 @@ use Rattle.bc_space.specs.declared.plane3.Plane3.{Plane3}
 use Rattle.bc_space.specs.Planes.{plane_side, IsSizedPlane}
 use Rattle.bc_space.specs.Regions.{mask_of}
 use Rattle.bc_solid.specs.Facets.{Facet}
-use Rattle.bc_natural.specs.Curves.{first_seen}
+use Rattle.bc_natural.specs.Distinct.{distinct}
+use Rattle.bc_natural.specs.declared.limits.TheConstants.{MOST_PLANES}
 use Rattle.bc_natural.specs.declared.nat_fault.NatFault.{NatFault}
 use Rattle.bc_natural.specs.declared.nat_fault.NatFault.TheVariants.{TooManyPlanes, TooManyLines, TooManyDiscs, Memory}
 
@@ -35,12 +36,9 @@ is_same_plane g h = int_eq g.a h.a && (int_eq g.b h.b && (int_eq g.c h.c && int_
 pub record ArePlanes (fs : List Facet) (t : Planes) : Type 0 where
   pub found : List (Plane3 × V3)
   pub of_faces : AllZip IsPlaneOf fs found
-  pub planes : t ≡ first_seen (λ g h. is_same_plane g.0 h.0) [] found
+  pub planes : t ≡ distinct (λ g h. is_same_plane g.0 h.0) found
 
 -- ---- limits
-
-abbrev pub most_planes : ℕ
-most_planes = 24
 
 -- the numbers are of the sizes that sides take
 pub record ArePlanesSized (t : Planes) : Type 0 where
@@ -48,11 +46,11 @@ pub record ArePlanesSized (t : Planes) : Type 0 where
   pub origins : All (λ e. AreCoords3 e.1) t
 
 abbrev pub ArePlanesFew : Planes → Type 0
-ArePlanesFew t = length t ≤ most_planes
+ArePlanesFew t = length t ≤ MOST_PLANES
 
 -- the faces pass the limit, with their number of planes; or there was no memory
 abbrev pub IsPlaneLimitFault : List Facet → NatFault → Type 0
-IsPlaneLimitFault fs (TooManyPlanes n) = (t : Planes) × ArePlanes fs t × (length t ≡ n) × (most_planes < n)
+IsPlaneLimitFault fs (TooManyPlanes n) = (t : Planes) × ArePlanes fs t × (length t ≡ n) × (MOST_PLANES < n)
 IsPlaneLimitFault fs (TooManyLines n) = ⊥
 IsPlaneLimitFault fs (TooManyDiscs n) = ⊥
 IsPlaneLimitFault fs Memory = Unit {0}

@@ -6,7 +6,7 @@ ghost use Rattle.bc_solid.specs.Boxes3.{IsCoordinate, IsBoxOf3};
 ghost use Rattle.bc_natural.specs.Spans.{AreSpans, AreHulls, IsAt, IsAlong};
 ghost use Rattle.bc_natural.specs.Planes.{IsNearBox3};
 
-use crate::bounds::hull_of;
+use crate::bounds2::hull_of;
 use crate::corners::{first_corner, near_corner};
 use crate::span::{Extent3, Span};
 use bc_num::{Box3, V3};

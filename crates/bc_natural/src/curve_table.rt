@@ -1,6 +1,7 @@
 ghost use Rattle.std.specs.Prelude.{◌≡◌, ◌<◌, [], length, slice_get, Some, IfOk, OnOk, map};
 ghost use Rattle.std.specs.List.{list_any};
-ghost use Rattle.bc_natural.specs.Curves.{lines_of, with_new, is_same_line, is_same_disc};
+ghost use Rattle.bc_natural.specs.Curves.{lines_of, is_same_line, is_same_disc};
+ghost use Rattle.bc_natural.specs.Noted.{with_new};
 
 use bc_num::{Disc2, List, Memory, V2};
 use bc_space::Line2;

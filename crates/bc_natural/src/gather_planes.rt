@@ -3,12 +3,10 @@ ghost use Rattle.bc_solid.specs.Facets.{Facet};
 ghost use Rattle.bc_natural.specs.Planes.{ArePlanes, ArePlanesSized, ArePlanesFew, IsPlaneLimitFault};
 
 use crate::corners::first_corner;
-use crate::{NatFault, PlaneTable};
+use crate::{MOST_PLANES, NatFault, PlaneTable};
 use bc_num::Memory;
 use bc_solid::Solid;
 use std::alloc::Global;
-
-const MOST_PLANES: usize = 24;
 
 // The table of the faces, however large it is.
 fn gather_planes(alloc: Global, s: &Solid) -> Result<PlaneTable, Memory>
@@ -24,7 +22,7 @@ fn gather_planes(alloc: Global, s: &Solid) -> Result<PlaneTable, Memory>
 }
 
 // The fault where the table passes the limit, with its number of planes.
-fn check_limit(table: &PlaneTable) -> Result<(), NatFault>
+fn check_plane_limit(table: &PlaneTable) -> Result<(), NatFault>
     ensures few { IfOk result (λ _. ArePlanesFew table.now) }
     ensures fault { (fs : List Facet) → ArePlanes fs table.now → IfErr result (IsPlaneLimitFault fs) }
 {
@@ -41,7 +39,7 @@ fn check_limit(table: &PlaneTable) -> Result<(), NatFault>
 ///
 /// # Errors
 ///
-/// `TooManyPlanes` where there are more than 24 planes, with how many there are in all; `Memory` where there is none.
+/// `TooManyPlanes` where there are more than `MOST_PLANES` planes, with how many there are in all; `Memory` where there is none.
 pub fn planes(alloc: Global, s: &Solid) -> Result<PlaneTable, NatFault>
     ensures table { IfOk result (ArePlanes s.now) }
     ensures sized { IfOk result ArePlanesSized }
@@ -49,6 +47,6 @@ pub fn planes(alloc: Global, s: &Solid) -> Result<PlaneTable, NatFault>
     ensures fault { IfErr result (IsPlaneLimitFault s.now) }
 {
     let table = gather_planes(alloc, s)?;
-    check_limit(&table)?;
+    check_plane_limit(&table)?;
     Ok(table)
 }

@@ -5,15 +5,16 @@ use bc_num::Memory as NoMemory;
 use thiserror::Error;
 
 /// Why there is no table of an input's half-spaces.
+/// What counts for users is the line that the program writes (`docs/formats.md`), and not `Display`.
 #[derive(Debug, Drop, PartialEq, Eq, Clone, Copy, Error)]
 pub enum NatFault {
-    /// There are `n` distinct planes, which is more than 24.
+    /// There are `n` distinct planes, which is more than `MOST_PLANES`.
     #[error("{n} planes are too many")]
     TooManyPlanes { n: u64 },
-    /// There are `n` distinct lines, which is more than 24.
+    /// There are `n` distinct lines, which is more than `MOST_LINES`.
     #[error("{n} lines are too many")]
     TooManyLines { n: u64 },
-    /// There are `n` distinct discs, which is more than 8.
+    /// There are `n` distinct discs, which is more than `MOST_DISCS`.
     #[error("{n} discs are too many")]
     TooManyDiscs { n: u64 },
     /// There is no memory left.

@@ -1,6 +1,6 @@
 ghost use Rattle.std.specs.Prelude.{◌≡◌, ◌<◌, [], length, slice_get, Some, IfOk, OnOk, map};
 ghost use Rattle.std.specs.List.{list_any};
-ghost use Rattle.bc_natural.specs.Curves.{with_new};
+ghost use Rattle.bc_natural.specs.Noted.{with_new};
 ghost use Rattle.bc_natural.specs.Planes.{planes_of, is_same_plane};
 
 use bc_num::{List, Memory, V3};

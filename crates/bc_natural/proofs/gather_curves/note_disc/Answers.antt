@@ -1,5 +1,5 @@
 use Rattle.bc_natural.proofs.Gathering.{adds_disc, sized_disc}
-use Rattle.bc_natural.proofs.gather.note_disc.Goals as goal
+use Rattle.bc_natural.proofs.gather_curves.note_disc.Goals as goal
 
 pub returns-clause-disc : goal.returns-clause-disc
 returns-clause-disc c =

@@ -1,5 +1,5 @@
 use Rattle.bc_natural.proofs.Gathering.{adds_line, sized_line, differ}
-use Rattle.bc_natural.proofs.gather.note_line.Goals as goal
+use Rattle.bc_natural.proofs.gather_curves.note_line.Goals as goal
 
 pub returns-in-Some-clause-line : goal.returns-in-Some-clause-line
 returns-in-Some-clause-line c =

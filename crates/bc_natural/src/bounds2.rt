@@ -9,9 +9,8 @@ ghost use Rattle.bc_natural.specs.Spans.{IsSpan, IsHull};
 ghost use Rattle.bc_natural.specs.Limits.{IsNearBox};
 
 use crate::span::Span;
-use crate::squares::square_of;
 use bc_num::{Box2, V2, reach};
-use bc_solid::{Element, Profile};
+use bc_solid::{Element, Profile, square_of};
 
 // The spans along both axes.
 #[derive(Clone, Copy)]

@@ -1,5 +1,5 @@
 use Rattle.bc_natural.proofs.Gathering.{curves_nil, sized_nil, curves_more, proper_at}
-use Rattle.bc_natural.proofs.gather.gather.Goals as goal
+use Rattle.bc_natural.proofs.gather_curves.gather_curves.Goals as goal
 
 pub loop-i-init : goal.loop-i-init
 loop-i-init c = record {

@@ -2,7 +2,7 @@ use Rattle.std.proofs.Common.{take}
 use Rattle.std.specs.Prelude.{Any}
 use Rattle.bc_solid.specs.Boxes.{IsXOf, IsYOf}
 use Rattle.bc_natural.specs.Spans.{IsSpan}
-use Rattle.bc_natural.proofs.bounds.whole_extent.Given as goal
+use Rattle.bc_natural.proofs.bounds2.whole_extent.Given as goal
 
 abbrev pub invariant-loop-i : goal.invariant-loop-i
 invariant-loop-i l = record {

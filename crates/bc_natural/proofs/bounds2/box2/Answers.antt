@@ -1,6 +1,6 @@
 use Rattle.std.proofs.Common.{arith}
-use Rattle.bc_natural.proofs.Spans.{box_of_spans}
-use Rattle.bc_natural.proofs.bounds.box2.Goals as goal
+use Rattle.bc_natural.proofs.Spans2.{box_of_spans}
+use Rattle.bc_natural.proofs.bounds2.box2.Goals as goal
 
 pub returns-clause-box_of : goal.returns-clause-box_of
 returns-clause-box_of c =

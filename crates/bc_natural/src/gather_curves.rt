@@ -8,16 +8,11 @@ ghost use Rattle.bc_natural.specs.Curves.{AreCurves};
 ghost use Rattle.bc_natural.specs.Noted.{AddsLine, AddsDisc, Adds};
 ghost use Rattle.bc_natural.specs.Limits.{AreSized, AreFew, IsLimitFault};
 
-use crate::squares::square_of;
-use crate::{CurveTable, NatFault};
+use crate::{CurveTable, MOST_DISCS, MOST_LINES, NatFault};
 use bc_num::{Disc2, Memory, V2};
-use bc_solid::{Element, Profile};
+use bc_solid::{Element, Profile, square_of};
 use bc_space::line_through;
 use std::alloc::Global;
-
-const MOST_LINES: usize = 24;
-
-const MOST_DISCS: usize = 8;
 
 // Notes the line through a and b, where they differ.
 fn note_line(table: &mut CurveTable, a: V2, b: V2) -> Result<(), Memory>
@@ -76,7 +71,7 @@ fn note(table: &mut CurveTable, element: Element) -> Result<(), Memory>
 }
 
 // The table of the elements, however large it is.
-fn gather(alloc: Global, s: &Profile) -> Result<CurveTable, Memory>
+fn gather_curves(alloc: Global, s: &Profile) -> Result<CurveTable, Memory>
     ensures table { IfOk result (AreCurves s.now) }
     ensures sized { IfOk result AreSized }
 {
@@ -89,7 +84,7 @@ fn gather(alloc: Global, s: &Profile) -> Result<CurveTable, Memory>
 }
 
 // The first limit that the table passes, with its number.
-fn check_limits(table: &CurveTable) -> Result<(), NatFault>
+fn check_curve_limits(table: &CurveTable) -> Result<(), NatFault>
     ensures few { IfOk result (λ _. AreFew table.now) }
     ensures fault { (es : List Element) → AreCurves es table.now → IfErr result (IsLimitFault es) }
 {
@@ -110,15 +105,15 @@ fn check_limits(table: &CurveTable) -> Result<(), NatFault>
 ///
 /// # Errors
 ///
-/// `TooManyLines` where there are more than 24 lines, else `TooManyDiscs` where there are more than 8 discs, each with how
-/// many there are in all; `Memory` where there is none.
+/// `TooManyLines` where there are more than `MOST_LINES` lines, else `TooManyDiscs` where there are more than `MOST_DISCS`
+/// discs, each with how many there are in all; `Memory` where there is none.
 pub fn curves(alloc: Global, s: &Profile) -> Result<CurveTable, NatFault>
     ensures table { IfOk result (AreCurves s.now) }
     ensures sized { IfOk result AreSized }
     ensures few { IfOk result AreFew }
     ensures fault { IfErr result (IsLimitFault s.now) }
 {
-    let table = gather(alloc, s)?;
-    check_limits(&table)?;
+    let table = gather_curves(alloc, s)?;
+    check_curve_limits(&table)?;
     Ok(table)
 }

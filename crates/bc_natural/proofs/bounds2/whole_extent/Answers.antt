@@ -1,7 +1,7 @@
 use Rattle.std.proofs.Common.{arith}
 use Rattle.bc_solid.specs.Boxes.{IsXOf, IsYOf}
-use Rattle.bc_natural.proofs.Spans.{span_first, span_more, span_all}
-use Rattle.bc_natural.proofs.bounds.whole_extent.Goals as goal
+use Rattle.bc_natural.proofs.Spans2.{span_first, span_more, span_all}
+use Rattle.bc_natural.proofs.bounds2.whole_extent.Goals as goal
 
 pub loop-i-init : goal.loop-i-init
 loop-i-init c = record {

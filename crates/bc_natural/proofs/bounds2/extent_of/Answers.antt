@@ -3,8 +3,8 @@ use Rattle.bc_num.specs.Measures.{square_between}
 use Rattle.bc_solid.specs.declared.element.Element.{Element}
 use Rattle.bc_solid.specs.Boxes.{IsXOf, IsYOf}
 use Rattle.bc_natural.specs.Spans.{IsSpan}
-use Rattle.bc_natural.proofs.Spans.{span_ends, span_arc}
-use Rattle.bc_natural.proofs.bounds.extent_of.Goals as goal
+use Rattle.bc_natural.proofs.Spans2.{span_ends, span_arc}
+use Rattle.bc_natural.proofs.bounds2.extent_of.Goals as goal
 
 pub returns-in-Edge-clause-x : goal.returns-in-Edge-clause-x
 returns-in-Edge-clause-x c =
