@@ -27,7 +27,7 @@ pub record IsSplit (es : List Element) (t : Curves) (regions : List Region) (all
   pub outside : s.outside ≡ map marked (filter (λ c. not (is_odd_candidate es t regions c)) all)
 
 -- a region's inner point is on no line, and small
-pub record IsRegion (t : Curves) (region : Region) : Type 0 where
+pub record HasInnerPoint (t : Curves) (region : Region) : Type 0 where
   pub off : All (λ l. line_side l region.inner ≢ On) (lines_of t)
   pub small : IsSmallPoint region.inner
 

@@ -4,7 +4,7 @@ ghost use Rattle.std.specs.List.{AllZip};
 ghost use Rattle.bc_natural.specs.Curves.{AreCurves};
 ghost use Rattle.bc_natural.specs.Limits.{AreFew};
 ghost use Rattle.bc_classify.specs.RegionParities.{IsParityAt};
-ghost use Rattle.bc_classify.specs.Splits.{IsRegion, IsSplit};
+ghost use Rattle.bc_classify.specs.Splits.{HasInnerPoint, IsSplit};
 
 use crate::region_parity::RegionParity;
 use crate::{Marked2, Split2};
@@ -29,7 +29,7 @@ pub fn classify2(
 ) -> Result<Split2, Memory>
     requires table { AreCurves s.now c.now }
     requires few { AreFew c.now }
-    requires regions { All (IsRegion c.now) regions.now }
+    requires regions { All (HasInnerPoint c.now) regions.now }
     requires places { All (λ k. k.region < length regions.now) all.now }
     ensures { IfOk result (IsSplit s.now c.now regions.now all.now) }
 {
@@ -58,7 +58,7 @@ fn parities_of(
     regions: &List<Cell<Flat>>,
 ) -> Result<List<RegionParity>, Memory>
     requires few { AreFew c.now }
-    requires regions { All (IsRegion c.now) regions.now }
+    requires regions { All (HasInnerPoint c.now) regions.now }
     ensures { IfOk result (AllZip (λ region. IsParityAt s.now c.now region.inner) regions.now) }
 {
     let mut parities = List::new(alloc);

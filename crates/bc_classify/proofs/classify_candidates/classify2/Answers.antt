@@ -4,8 +4,8 @@ use Rattle.bc_discs.specs.declared.candidate.Candidate.{Candidate}
 use Rattle.bc_classify.specs.OddMasks.{is_odd_candidate}
 use Rattle.bc_classify.specs.RegionParities.{IsParityAt}
 use Rattle.bc_classify.proofs.Walks.{zip_length, told_is, put_inside, put_outside}
-use Rattle.bc_classify.proofs.classify.classify2.Goals as goal
-use Rattle.bc_classify.proofs.classify.classify2.Goals.{then-is_odd+in_ok-push, else-is_odd+in_ok-push-2}
+use Rattle.bc_classify.proofs.classify_candidates.classify2.Goals as goal
+use Rattle.bc_classify.proofs.classify_candidates.classify2.Goals.{then-is_odd+in_ok-push, else-is_odd+in_ok-push-2}
 
 pub get-requires : goal.get-requires
 get-requires c =

@@ -3,7 +3,7 @@ use Rattle.std.specs.List.{AllZip}
 use Rattle.bc_discs.specs.Candidates.{Region}
 use Rattle.bc_classify.specs.RegionParities.{IsParityAt}
 use Rattle.bc_classify.proofs.Walks.{zip_more}
-use Rattle.bc_classify.proofs.classify.parities_of.Goals as goal
+use Rattle.bc_classify.proofs.classify_candidates.parities_of.Goals as goal
 
 pub loop-region-preserved : goal.loop-region-preserved
 loop-region-preserved c =
