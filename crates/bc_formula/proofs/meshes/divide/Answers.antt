@@ -1,0 +1,32 @@
+use Rattle.std.proofs.Common.{◌≡◌, ℕ, List, map, sym, ap, ◌∙◌, subst}
+use Rattle.std.specs.Prelude.{All}
+use Rattle.std.proofs.lemmas.List.Elements.{All-map}
+use Rattle.bc_num.specs.declared.v3.V3.{V3}
+use Rattle.bc_num.specs.Sizes.{IsLargePoint3}
+use Rattle.bc_space.specs.declared.plane3.Plane3.{Plane3}
+use Rattle.bc_space.specs.Planes.{plane_side, IsSizedPlane}
+use Rattle.bc_space.specs.Solid.{walls3, met3}
+use Rattle.bc_natural.specs.Planes.{plane_mask}
+use Rattle.bc_cells.specs.Cells.{AreCells}
+use Rattle.bc_classify.specs.declared.split3.Marked3.{Marked3}
+use Rattle.bc_formula.specs.MeshGeometry.{meshes, slabs_of}
+use Rattle.bc_formula.specs.Divisions.{AreMasks, AreDivided}
+use Rattle.bc_formula.proofs.MeshMasks.{mesh_masks, mesh_divided}
+use Rattle.bc_formula.proofs.meshes.divide.Goals as goal
+
+pub cells-requires-clause-sized : goal.cells-requires-clause-sized
+cells-requires-clause-sized c = subst (All IsSizedPlane) (sym (c.as_slice.ensures ∙ c.in_ok-planes.ensures)) (All-map IsSizedPlane (λ (g : Plane3 × V3). g.0) c.args.table.now c.requires.sized.planes)
+
+pub classify3-requires : goal.classify3-requires
+classify3-requires c = λ i d l. (c.in_ok-all.ensures.cells.each i d l).fits
+
+pub returns : goal.returns
+returns c =
+    let cells = subst (λ (hs : List Plane3). AreCells IsLargePoint3 plane_side met3 3 (walls3 c.args.block.now) hs c.in_ok-all.all) (c.as_slice.ensures ∙ c.in_ok-planes.ensures) c.in_ok-all.ensures.cells in
+    let m = mesh_masks c.args.solid.now c.args.block.now c.args.table.now c.in_ok-all.all c.in_ok-split.split c.requires.planes c.odd_cell_law.ensures cells c.in_ok-split.ensures c.requires.few in
+    let d = mesh_divided c.args.solid.now c.args.block.now c.args.table.now c.in_ok-all.all c.in_ok-split.split c.requires.planes c.odd_cell_law.ensures cells c.in_ok-split.ensures in
+    let ins : map (λ (m : Marked3). m.mask) c.in_ok-split.split.inside ≡ c.in_ok-masks.field-0.items = sym (c.in_ok-masks.ensures ∙ ap (map (λ (m : Marked3). m.mask)) c.as_slice-2.ensures) in
+    let outs : map (λ (m : Marked3). m.mask) c.in_ok-split.split.outside ≡ c.in_ok-masks-2.field-0.items = sym (c.in_ok-masks-2.ensures ∙ ap (map (λ (m : Marked3). m.mask)) c.as_slice-3.ensures) in
+    let P : List ℕ → List ℕ → Type 0 = λ xs ys. AreMasks (slabs_of c.args.table.now) xs ys × AreDivided meshes c.args.solid.now c.args.block.now (plane_mask c.args.table.now) xs ys in
+    let both = subst (λ (ys : List ℕ). P c.in_ok-masks.field-0.items ys) outs (subst (λ (xs : List ℕ). P xs (map (λ (m : Marked3). m.mask) c.in_ok-split.split.outside)) ins (m, d)) in
+    record { masks = both.0; divided = both.1 }

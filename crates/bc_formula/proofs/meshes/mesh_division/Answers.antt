@@ -1,0 +1,20 @@
+use Rattle.std.proofs.Common.{List, refl, sym, subst}
+use Rattle.bc_natural.specs.Planes.{plane_mask}
+use Rattle.bc_tree.specs.declared.tree.Leaf.{Leaf}
+use Rattle.bc_tree.specs.declared.tree.Leaf.TheVariants.{Block}
+use Rattle.bc_text.specs.declared.note.Head.TheVariants.{Solid}
+use Rattle.bc_formula.specs.MeshGeometry.{meshes}
+use Rattle.bc_formula.specs.Divisions.{IsDivision}
+use Rattle.bc_formula.proofs.MeshLeaves.{bits_of}
+use Rattle.bc_formula.proofs.meshes.mesh_division.Goals as goal
+
+pub returns-clause-ok : goal.returns-clause-ok
+returns-clause-ok c =
+    let t = c.in_ok-table.table in
+    let known = c.in_ok-table.ensures in
+    let box = c.box3-block.result in
+    let bits = bits_of c.args.solid.now box t c.law.ensures known.table known.sized known.few c.box3-block.ensures.box_of c.box3-block.ensures.near c.outside_law3.ensures in (
+      box,
+      subst (λ (ls : List Leaf). IsDivision meshes c.args.solid.now box (record { block = Block box; head = Solid box; leaves = ls; inside = c.in_ok-masks.masks.inside; outside = c.in_ok-masks.masks.outside })) (sym c.in_ok-slabs.ensures)
+          (record { block = refl; head = refl; mask_at = plane_mask t; bits = bits; masks = c.in_ok-masks.ensures.masks; divided = c.in_ok-masks.ensures.divided }),
+    )

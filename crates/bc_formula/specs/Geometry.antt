@@ -1,0 +1,25 @@
+-- What a formula needs to know of a kind of boundary: B are the boundaries, P the points and X the boxes. There are two kinds,
+-- contours of the plane and meshes of space.
+use Rattle.std.specs.Prelude.{List}
+use Rattle.bc_natural.specs.declared.nat_fault.NatFault.{NatFault}
+use Rattle.bc_tree.specs.declared.tree.Leaf.{Leaf}
+use Rattle.bc_text.specs.declared.note.Head.{Head}
+
+pub record Geometry (B P X : Type 0) : Type 1 where
+  -- the boundary has no more half-spaces than a conversion takes, and the first limit that it passes
+  pub within : B → Type 0
+  pub past : B → NatFault → Type 0
+  -- the box of the boundary, and the points strictly inside it and outside it
+  pub box_of : B → X → Type 0
+  pub inside : X → P → Type 0
+  pub outside : X → P → Type 0
+  -- the point is on no half-space boundary, and the downward ray from it crosses the boundary an odd number of times
+  pub off : B → P → Type 0
+  pub odd : B → P → Type 0
+  -- the leaves of the half-spaces, each once and in their order
+  pub leaves : B → List Leaf → Type 0
+  -- the box as a leaf, and as it stands at the head of a text
+  pub block : X → Leaf
+  pub head : X → Head
+  -- the point is in the set of a leaf
+  pub in_leaf : Leaf → P → Type 0

@@ -1,0 +1,5 @@
+pub mod Geometry
+pub mod ContourGeometry
+pub mod MeshGeometry
+pub mod Headline
+pub mod Divisions

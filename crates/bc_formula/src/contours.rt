@@ -1,0 +1,145 @@
+ghost use Rattle.std.specs.Prelude.{◌≡◌, ◌<◌, ◌++◌, map, length, slice_get, Some, IfOk, IfErr, OnOk};
+ghost use Rattle.bc_natural.specs.Curves.{AreCurves};
+ghost use Rattle.bc_natural.specs.Limits.{AreSized, AreFew, IsLimitFault, IsNearBox};
+ghost use Rattle.bc_tree.specs.declared.tree.Leaf.TheVariants.{Disc};
+ghost use Rattle.bc_tree.specs.Shape.{shape};
+ghost use Rattle.bc_formula.specs.Divisions.{AreDivided, AreMasks, IsDivision};
+ghost use Rattle.bc_space.specs.Lines.{IsSizedLine};
+ghost use Rattle.bc_num.specs.declared.box2.Box2.{Box2 as ABox};
+ghost use Rattle.bc_natural.specs.Masks.{curve_mask};
+ghost use Rattle.bc_text.specs.declared.note.Head.TheVariants.{Contour};
+ghost use Rattle.bc_formula.specs.ContourGeometry.{contours, direction_of, leaves_of, strip_leaf};
+ghost use Rattle.bc_formula.specs.Headline.{IsFormula};
+
+use crate::terms::{Division, Formula, Masks, formula_of};
+use bc_cells::cells;
+use bc_classify::laws::odd_mask_law;
+use bc_classify::{Marked2, classify2};
+use bc_discs::candidates;
+use bc_natural::{CurveTable, NatFault, box2, curves};
+use bc_num::{Box2, List, Memory, V2};
+use bc_parity::laws::outside_law2;
+use bc_solid::Profile;
+use bc_space::{Flat, Line2};
+use bc_text::Head;
+use bc_tree::{Frame2, Leaf};
+use std::alloc::Global;
+
+fn masks(alloc: Global, marks: &[Marked2]) -> Result<Vec<u64>, Memory>
+    ensures { IfOk result (λ v. v.items ≡ map (λ m. m.mask) marks.now) }
+{
+    let mut masks = Vec::new(alloc);
+    for mark in marks {
+        masks.push(mark.mask)?;
+    }
+    Ok(masks)
+}
+
+// The masks of the regions of the lines with sets of discs, by whether they are odd.
+fn divide(
+    alloc: Global,
+    profile: &Profile,
+    table: &CurveTable,
+    tile: &Box2,
+) -> Result<Masks, Memory>
+    requires curves { AreCurves profile.now table.now }
+    requires sized { AreSized table.now }
+    requires few { AreFew table.now }
+    requires near { IsNearBox tile.now }
+    ensures masks { IfOk result (λ m. AreMasks (leaves_of table.now) m.inside.items m.outside.items) }
+    ensures divided { IfOk result (λ m. AreDivided contours profile.now tile.now (curve_mask table.now) m.inside.items m.outside.items) }
+{
+    let lines = table.line_list(alloc)?;
+    let discs = table.disc_list(alloc)?;
+    let regions = cells::<Flat>(alloc, tile, lines.as_slice())?;
+    let all = candidates(alloc, tile, lines.as_slice(), &regions, discs.as_slice())?;
+    let split = classify2(alloc, profile, table, &regions, &all)?;
+    odd_mask_law(profile, table);
+    Ok(Masks {
+        inside: masks(alloc, split.inside.as_slice())?,
+        outside: masks(alloc, split.outside.as_slice())?,
+    })
+}
+
+// The direction whose normal, turned to the left, is that of the line.
+fn direction(line: &Line2) -> V2
+    requires { IsSizedLine line.now }
+    ensures { result ≡ direction_of line.now }
+{
+    V2 {
+        x: line.b,
+        y: -line.a,
+    }
+}
+
+// The strip of the line with this number.
+fn strip(table: &CurveTable, i: usize) -> Leaf
+    requires within { i < length table.now.lines }
+    requires sized { AreSized table.now }
+    ensures { slice_get (map strip_leaf table.now.lines) i ≡ Some result }
+{
+    let (line, o) = table.entry(i);
+    Leaf::Strip(Frame2 {
+        o,
+        u: direction(&line),
+    })
+}
+
+fn add_strips(leaves: &mut List<Leaf>, table: &CurveTable) -> Result<(), Memory>
+    requires sized { AreSized table.now }
+    ensures { OnOk result (leaves.new ≡ leaves.old ++ map strip_leaf table.now.lines) }
+{
+    for i in 0..table.lines() {
+        leaves.push(strip(table, i))?;
+    }
+    Ok(())
+}
+
+fn add_discs(leaves: &mut List<Leaf>, table: &CurveTable) -> Result<(), Memory>
+    ensures { OnOk result (leaves.new ≡ leaves.old ++ map Disc table.now.discs) }
+{
+    for i in 0..table.discs() {
+        leaves.push(Leaf::Disc(table.disc(i)))?;
+    }
+    Ok(())
+}
+
+// The leaves of the half-spaces, in the order of the table.
+fn leaves(alloc: Global, table: &CurveTable) -> Result<List<Leaf>, Memory>
+    requires sized { AreSized table.now }
+    ensures { IfOk result (λ ls. ls ≡ leaves_of table.now) }
+{
+    let mut leaves = List::new(alloc);
+    add_strips(&mut leaves, table)?;
+    add_discs(&mut leaves, table)?;
+    Ok(leaves)
+}
+
+/// What closed contours divide their box into. `TooManyLines` or `TooManyDiscs` where they have more half-spaces than a
+/// conversion takes.
+pub fn contour_division(alloc: Global, profile: &Profile) -> Result<Division, NatFault>
+    ensures ok { IfOk result (λ d. (box : ABox) × IsDivision contours profile.now box d) }
+    ensures err { IfErr result (IsLimitFault profile.now) }
+{
+    outside_law2(profile);
+    let table = curves(alloc, profile)?;
+    let tile = box2(profile);
+    let masks = divide(alloc, profile, &table, &tile)?;
+    Ok(Division {
+        block: Leaf::Tile(tile),
+        head: Head::Contour(tile),
+        leaves: leaves(alloc, &table)?,
+        inside: masks.inside,
+        outside: masks.outside,
+    })
+}
+
+/// The formula of closed contours: terms of the half-spaces that they induce. `TooManyLines` or `TooManyDiscs` where these
+/// are more than a conversion takes.
+pub fn contour_formula(alloc: Global, profile: &Profile) -> Result<Formula, NatFault>
+    ensures ok { IfOk result (λ f. (box : ABox) × (f.head ≡ Contour box) × IsFormula contours profile.now box (shape f.tree)) }
+    ensures err { IfErr result (IsLimitFault profile.now) }
+{
+    let division = contour_division(alloc, profile)?;
+    Ok(formula_of(alloc, &division)?)
+}

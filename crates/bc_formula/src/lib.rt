@@ -1,0 +1,11 @@
+//! The formula of a boundary: its half-spaces divide its box, the masks of what is inside are covered by terms, and the tree
+//! of these terms means the boundary. `specs/Headline` says what a formula and its text mean, of any kind of boundary.
+#![tactic(auto)]
+
+mod contours;
+mod meshes;
+mod terms;
+
+pub use contours::{contour_division, contour_formula};
+pub use meshes::{mesh_division, mesh_formula};
+pub use terms::{Division, Formula, formula_of};

@@ -1,0 +1,112 @@
+ghost use Rattle.std.specs.Prelude.{◌≡◌, ◌<◌, map, length, slice_get, Some, IfOk, IfErr};
+ghost use Rattle.bc_num.specs.declared.box3.Box3.{Box3 as ABox};
+ghost use Rattle.bc_natural.specs.Planes.{ArePlanes, ArePlanesSized, ArePlanesFew, IsPlaneLimitFault, IsNearBox3, plane_mask};
+ghost use Rattle.bc_text.specs.declared.note.Head.TheVariants.{Solid as SolidHead};
+ghost use Rattle.bc_tree.specs.Shape.{shape};
+ghost use Rattle.bc_formula.specs.Divisions.{AreDivided, AreMasks, IsDivision};
+ghost use Rattle.bc_formula.specs.MeshGeometry.{meshes, normal_of, slabs_of};
+ghost use Rattle.bc_formula.specs.Headline.{IsFormula};
+
+use crate::terms::{Division, Formula, Masks, formula_of};
+use bc_cells::cells;
+use bc_classify::laws::odd_cell_law;
+use bc_classify::{Marked3, classify3};
+use bc_natural::{NatFault, PlaneTable, box3, planes};
+use bc_num::{Box3, List, Memory, V3};
+use bc_parity::laws::outside_law3;
+use bc_solid::Solid;
+use bc_space::{Plane3, Solid3};
+use bc_text::Head;
+use bc_tree::{Frame3, Leaf};
+use std::alloc::Global;
+
+fn masks(alloc: Global, marks: &[Marked3]) -> Result<Vec<u64>, Memory>
+    ensures { IfOk result (λ v. v.items ≡ map (λ m. m.mask) marks.now) }
+{
+    let mut masks = Vec::new(alloc);
+    for mark in marks {
+        masks.push(mark.mask)?;
+    }
+    Ok(masks)
+}
+
+// The masks of the cells of the planes, by whether they are odd.
+fn divide(alloc: Global, solid: &Solid, table: &PlaneTable, block: &Box3) -> Result<Masks, Memory>
+    requires planes { ArePlanes solid.now table.now }
+    requires sized { ArePlanesSized table.now }
+    requires few { ArePlanesFew table.now }
+    requires near { IsNearBox3 block.now }
+    ensures masks { IfOk result (λ m. AreMasks (slabs_of table.now) m.inside.items m.outside.items) }
+    ensures divided { IfOk result (λ m. AreDivided meshes solid.now block.now (plane_mask table.now) m.inside.items m.outside.items) }
+{
+    let planes = table.plane_list(alloc)?;
+    let all = cells::<Solid3>(alloc, block, planes.as_slice())?;
+    let split = classify3(alloc, solid, &all)?;
+    odd_cell_law(solid, table);
+    Ok(Masks {
+        inside: masks(alloc, split.inside.as_slice())?,
+        outside: masks(alloc, split.outside.as_slice())?,
+    })
+}
+
+fn normal(plane: &Plane3) -> V3
+    ensures { result ≡ normal_of plane.now }
+{
+    V3 {
+        x: plane.a,
+        y: plane.b,
+        z: plane.c,
+    }
+}
+
+// The slab of the plane with this number.
+fn slab(table: &PlaneTable, i: usize) -> Leaf
+    requires within { i < length table.now }
+    ensures { slice_get (slabs_of table.now) i ≡ Some result }
+{
+    let (plane, o) = table.entry(i);
+    Leaf::Slab(Frame3 {
+        o,
+        n: normal(&plane),
+    })
+}
+
+// The leaves of the half-spaces, in the order of the table.
+fn slabs(alloc: Global, table: &PlaneTable) -> Result<List<Leaf>, Memory>
+    ensures { IfOk result (λ ls. ls ≡ slabs_of table.now) }
+{
+    let mut leaves = List::new(alloc);
+    for i in 0..table.len() {
+        leaves.push(slab(table, i))?;
+    }
+    Ok(leaves)
+}
+
+/// What a closed mesh divides its box into. `TooManyPlanes` where it has more half-spaces than a conversion takes.
+pub fn mesh_division(alloc: Global, solid: &Solid) -> Result<Division, NatFault>
+    ensures ok { IfOk result (λ d. (box : ABox) × IsDivision meshes solid.now box d) }
+    ensures err { IfErr result (IsPlaneLimitFault solid.now) }
+{
+    solid.law();
+    outside_law3(solid);
+    let table = planes(alloc, solid)?;
+    let block = box3(solid);
+    let masks = divide(alloc, solid, &table, &block)?;
+    Ok(Division {
+        block: Leaf::Block(block),
+        head: Head::Solid(block),
+        leaves: slabs(alloc, &table)?,
+        inside: masks.inside,
+        outside: masks.outside,
+    })
+}
+
+/// The formula of a closed mesh: terms of the half-spaces of its planes. `TooManyPlanes` where these are more than a
+/// conversion takes.
+pub fn mesh_formula(alloc: Global, solid: &Solid) -> Result<Formula, NatFault>
+    ensures ok { IfOk result (λ f. (box : ABox) × (f.head ≡ SolidHead box) × IsFormula meshes solid.now box (shape f.tree)) }
+    ensures err { IfErr result (IsPlaneLimitFault solid.now) }
+{
+    let division = mesh_division(alloc, solid)?;
+    Ok(formula_of(alloc, &division)?)
+}
