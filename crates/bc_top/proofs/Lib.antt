@@ -1,12 +1,6 @@
-mod Formulas
-mod Leaves
-mod Slabs
-mod TwoLists
-mod Masks
-mod CellMasks
-mod Described
-pub mod Reporting
-mod Words
-mod Queries
 mod Answering
+mod Dispatch
+mod FrontPage
+mod Fulfilled
+mod Points
 mod Settled

@@ -1,6 +1,6 @@
 -- What is known of both kinds of boundaries: no text has both a boundary and a fault, and no boundary both passes its limits
 -- and keeps them.
-use Rattle.std.proofs.Common.{◌≡◌, ◌≢◌, ℕ, List, [], ◌∷◌, length, Result, Ok, Err, refl, sym, ap, ◌∙◌, subst, arith}
+use Rattle.std.proofs.Common.{◌≡◌, ◌≢◌, ◌≤◌, ℕ, List, [], ◌∷◌, length, Result, Ok, Err, refl, sym, ap, ◌∙◌, subst, arith, inl, inr}
 use Rattle.std.specs.Prelude.{All}
 use Rattle.std.specs.List.{Contains}
 use Rattle.std.proofs.lemmas.List.Elements.{All-contains, All-head, All-tail}
@@ -13,7 +13,7 @@ use Rattle.bc_solid.specs.Closed.{joined, AreClosed}
 use Rattle.bc_solid.specs.Meshes.{Mesh, faces_of}
 use Rattle.bc_solid.specs.Facets.{Facet, outlines, IsFacet, IsClosedMesh, IsOnPlane}
 use Rattle.bc_gcode.specs.Gcode.{contours_of}
-use Rattle.bc_off.specs.Off.{mesh_of_text}
+use Rattle.bc_off.specs.Off.{Off, mesh_of_text}
 use Rattle.bc_natural.specs.declared.nat_fault.NatFault.{NatFault}
 use Rattle.bc_natural.specs.declared.nat_fault.NatFault.TheVariants as limits
 use Rattle.bc_natural.specs.Curves.{Curves}
@@ -21,15 +21,17 @@ use Rattle.bc_natural.specs.Limits.{IsLimitFault, IsWithinLimits}
 use Rattle.bc_natural.specs.Planes.{Planes, IsPlaneLimitFault, IsWithinPlaneLimit}
 use Rattle.bc_natural.proofs.Table.{one_table}
 use Rattle.bc_natural.proofs.PlaneTables.{one_plane_table}
-use Rattle.bc_top.specs.declared.status.Refusal.{Refusal}
-use Rattle.bc_top.specs.declared.status.Refusal.TheVariants as refusals
-use Rattle.bc_top.specs.Commands.{Query}
-use Rattle.bc_top.specs.Contours.{contours, HasProfile, IsContourFault, IsPointRefusal, IsAsked}
-use Rattle.bc_top.specs.Meshes.{meshes, HasSolid, IsMeshTextFault, IsPointRefusal3, IsAsked3}
-use Rattle.bc_top.proofs.Answering.{IsSettled}
+use Rattle.bc_status.specs.declared.status.Refusal.{Refusal}
+use Rattle.bc_top.specs.Commands.{Question}
+use Rattle.bc_top.specs.declared.boundary.TheConstants.{MOST_BYTES}
+use Rattle.bc_formula.specs.ContourGeometry.{contours}
+use Rattle.bc_top.specs.ContourTexts.{contour_texts, flat_points, HasProfile, IsContourFault, IsFlatRefusal, IsAsked2}
+use Rattle.bc_formula.specs.MeshGeometry.{meshes}
+use Rattle.bc_top.specs.MeshTexts.{mesh_texts, space_points, HasSolid, IsMeshTextFault, IsSpaceRefusal, IsAsked3}
+use Rattle.bc_top.proofs.Answering.{IsSettled, IsFair}
 
 -- a text is read in one way
-read_once : {A E : Type 0} (a b : A) (r : Result A E) → r ≡ Ok a → r ≡ Ok b → a ≡ b
+pub read_once : {A E : Type 0} (a b : A) (r : Result A E) → r ≡ Ok a → r ≡ Ok b → a ≡ b
 read_once a b r h k = cc
 
 not_both : {A E C : Type 0} (a : A) (f : E) (r : Result A E) → r ≡ Ok a → r ≡ Err f → C
@@ -37,17 +39,12 @@ not_both a f r h k = cc
 
 -- ---- contours
 
-no_contour_fault : (bytes : List ℕ) (f : Refusal) (es : List Element) → IsContourFault bytes f → HasProfile bytes es → ⊥
-no_contour_fault bytes refusals.TooLong es h k = absurd (omega (arith, h, k.few))
-no_contour_fault bytes (refusals.G f) es h k = not_both k.of_text f (contours_of bytes) k.read h.1
-no_contour_fault bytes (refusals.Contour f) es h k = h.1.3 (subst AreClosed (read_once k.of_text h.1.0 (contours_of bytes) k.read h.1.1) k.closed)
-no_contour_fault bytes (refusals.Off f) es h k = absurd h
-no_contour_fault bytes (refusals.Mesh f) es h k = absurd h
-no_contour_fault bytes refusals.PointTooFine es h k = absurd h
-no_contour_fault bytes refusals.PointOffPlane es h k = absurd h
-no_contour_fault bytes (refusals.Limit f) es h k = absurd h
+pub no_contour_fault : (bytes : List ℕ) (f : Refusal) (es : List Element) → IsContourFault bytes f → HasProfile bytes es → ⊥
+no_contour_fault bytes f es (inl (e, more)) k = absurd (omega (arith, more, k.few))
+no_contour_fault bytes f es (inr (inl (g, e, few, first))) k = not_both k.of_text g (contours_of bytes) k.read first
+no_contour_fault bytes f es (inr (inr (c, e, few, cs, read, first, unclosed))) k = unclosed (subst AreClosed (read_once k.of_text cs (contours_of bytes) k.read read) k.closed)
 
-one_profile : (bytes : List ℕ) (es fs : List Element) → HasProfile bytes es → HasProfile bytes fs → es ≡ fs
+pub one_profile : (bytes : List ℕ) (es fs : List Element) → HasProfile bytes es → HasProfile bytes fs → es ≡ fs
 one_profile bytes es fs h k = sym h.whole ∙ ap joined (read_once h.of_text k.of_text (contours_of bytes) h.read k.read) ∙ k.whole
 
 -- the elements have one table, so a limit that they pass is one that they do not keep
@@ -59,35 +56,29 @@ past_limit es (limits.TooManyDiscs n) some (u, h, kept, e, more) (t, k, few) =
     absurd (let size : length u.discs ≡ length t.discs = ap (λ (c : Curves). length c.discs) (one_table es u t h k) in omega (arith, few.discs))
 past_limit es limits.Memory some h w = absurd (some refl)
 
-no_flat_point : (q : Query) (f : Refusal) (o : P2) → IsPointRefusal q f → IsAsked q o → ⊥
-no_flat_point q refusals.PointTooFine o h k = cc (h, k.small)
-no_flat_point q refusals.PointOffPlane o h k = h.1 k.flat
-no_flat_point q refusals.TooLong o h k = absurd h
-no_flat_point q (refusals.Off f) o h k = absurd h
-no_flat_point q (refusals.G f) o h k = absurd h
-no_flat_point q (refusals.Mesh f) o h k = absurd h
-no_flat_point q (refusals.Contour f) o h k = absurd h
-no_flat_point q (refusals.Limit f) o h k = absurd h
+no_flat_point : (q : Question) (f : Refusal) (o : P2) → IsFlatRefusal q f → IsAsked2 q o → ⊥
+no_flat_point q f o (inl (e, fine)) k = cc (fine, k.fine)
+no_flat_point q f o (inr (e, fine, off)) k = off k.flat
 
-pub contours_settled : IsSettled contours
+pub contours_settled : IsSettled contours contour_texts
 contours_settled = record {
-  too_long = λ bytes h. h;
-  no_fault = no_contour_fault;
+  text = record { too_long = λ bytes h. inl (refl, h); no_fault = no_contour_fault };
   no_limit = λ bytes f es fs h k past some within. past_limit es f some past (subst IsWithinLimits (one_profile bytes fs es k h) within);
-  no_point = no_flat_point;
 }
+
+pub flat_fair : IsFair flat_points
+flat_fair = record { no_point = no_flat_point }
 
 -- ---- meshes
 
+-- a text that is short enough, of the grammar and closed has no fault
+pub no_text_fault : (bytes : List ℕ) (f : Refusal) (mesh : Mesh) → IsMeshTextFault bytes f → length bytes ≤ MOST_BYTES → Off bytes mesh → IsClosedMesh (faces_of mesh) → ⊥
+no_text_fault bytes f mesh (inl (e, more)) few read closed = absurd (omega (arith, more, few))
+no_text_fault bytes f mesh (inr (inl (g, e, short, first))) few read closed = not_both mesh g (mesh_of_text bytes) read first
+no_text_fault bytes f mesh (inr (inr (c, e, short, other, other_read, fault, unclosed))) few read closed = unclosed (subst (λ (m : Mesh). IsClosedMesh (faces_of m)) (read_once mesh other (mesh_of_text bytes) read other_read) closed)
+
 no_mesh_fault : (bytes : List ℕ) (f : Refusal) (fs : List Facet) → IsMeshTextFault bytes f → HasSolid bytes fs → ⊥
-no_mesh_fault bytes refusals.TooLong fs h k = absurd (omega (arith, h, k.few))
-no_mesh_fault bytes (refusals.Off f) fs h k = not_both k.of_text f (mesh_of_text bytes) k.read h.1
-no_mesh_fault bytes (refusals.Mesh f) fs h k = h.1.3 (subst (λ (m : Mesh). IsClosedMesh (faces_of m)) (read_once k.of_text h.1.0 (mesh_of_text bytes) k.read h.1.1) k.closed)
-no_mesh_fault bytes (refusals.G f) fs h k = absurd h
-no_mesh_fault bytes (refusals.Contour f) fs h k = absurd h
-no_mesh_fault bytes refusals.PointTooFine fs h k = absurd h
-no_mesh_fault bytes refusals.PointOffPlane fs h k = absurd h
-no_mesh_fault bytes (refusals.Limit f) fs h k = absurd h
+no_mesh_fault bytes f fs h k = no_text_fault bytes f k.of_text h k.few k.read k.closed
 
 -- two faces with the same corners, each in its canonical plane, are the same
 one_facet : (f g : Facet) → IsFacet f → IsFacet g → f.corners ≡ g.corners → f ≡ g
@@ -118,20 +109,14 @@ past_planes fs (limits.TooManyLines n) some h w = absurd h
 past_planes fs (limits.TooManyDiscs n) some h w = absurd h
 past_planes fs limits.Memory some h w = absurd (some refl)
 
-no_point_of_space : (q : Query) (f : Refusal) (o : P3) → IsPointRefusal3 q f → IsAsked3 q o → ⊥
-no_point_of_space q refusals.PointTooFine o h k = cc (h, k.small)
-no_point_of_space q refusals.PointOffPlane o h k = absurd h
-no_point_of_space q refusals.TooLong o h k = absurd h
-no_point_of_space q (refusals.Off f) o h k = absurd h
-no_point_of_space q (refusals.G f) o h k = absurd h
-no_point_of_space q (refusals.Mesh f) o h k = absurd h
-no_point_of_space q (refusals.Contour f) o h k = absurd h
-no_point_of_space q (refusals.Limit f) o h k = absurd h
+no_point_of_space : (q : Question) (f : Refusal) (o : P3) → IsSpaceRefusal q f → IsAsked3 q o → ⊥
+no_point_of_space q f o (e, fine) k = cc (fine, k.fine)
 
-pub meshes_settled : IsSettled meshes
+pub meshes_settled : IsSettled meshes mesh_texts
 meshes_settled = record {
-  too_long = λ bytes h. h;
-  no_fault = no_mesh_fault;
+  text = record { too_long = λ bytes h. inl (refl, h); no_fault = no_mesh_fault };
   no_limit = λ bytes f fs gs h k past some within. past_planes fs f some past (subst IsWithinPlaneLimit (one_solid bytes gs fs k h) within);
-  no_point = no_point_of_space;
 }
+
+pub space_fair : IsFair space_points
+space_fair = record { no_point = no_point_of_space }

@@ -1,64 +1,67 @@
--- What is read from a command line: its numbers, cut to 2^62 in size.
-use Rattle.std.specs.Prelude.{◌≡◌, ◌^◌, ◌≢◌, suc, ℤ, pos, negsuc, neg_ℤ, ◌<ℤ◌, Bool, true, false, ◌||◌, nat_lt, nat_abs, min}
-use Rattle.bc_top.specs.declared.command.Query.{Query as Asked}
-use Rattle.bc_top.specs.declared.command.Command.{Command as Parsed}
-use Rattle.bc_top.specs.declared.command.Command.TheVariants.{ConvertContour, ConvertOff, SideContour, SideOff}
-use Rattle.bc_num.specs.declared.p2.P2.{P2}
-use Rattle.bc_num.specs.declared.p3.P3.{P3}
-use Rattle.bc_num.specs.Sizes.{IsSmallPoint, IsLargePoint3}
-use Rattle.bc_top.specs.declared.status.Refusal.{Refusal}
-use Rattle.bc_top.specs.declared.status.Refusal.TheVariants.{PointTooFine, PointOffPlane}
-use Rattle.bc_top.specs.Commands.{Query, Command, convert_contour, convert_off, side_contour, side_off}
+-- How the words of a command line stand in the program once they are read: a point that is too fine is known as such, and every
+-- other has its numbers.
+use Rattle.std.specs.Prelude.{◌≡◌, ◌<ℤ◌, ℕ, ℤ, pos, nat_abs, nat_lt, Option, None, Some, true, false, if◌then◌else◌}
+use Rattle.bc_algebra.specs.Within.{IsWithin}
+use Rattle.bc_top.specs.declared.command.TheConstants.{MOST_COORDINATE, MOST_DENOMINATOR}
+use Rattle.bc_top.specs.declared.command.Number.{Number}
+use Rattle.bc_top.specs.declared.command.Number.TheVariants.{Fine, Past}
+use Rattle.bc_top.specs.declared.command.Query.{Query}
+use Rattle.bc_top.specs.declared.command.Query.TheVariants.{At, TooFine}
+use Rattle.bc_top.specs.declared.command.Command.{Command}
+use Rattle.bc_top.specs.declared.command.Command.TheVariants.{Convert, Side}
+use Rattle.bc_top.specs.Commands.{Question, is_too_fine, Request, convert, side}
 
--- no more than 2^62 in size
-abbrev pub capped : ℤ → ℤ
-capped (pos n) = pos (min (2 ^ 62) n)
-capped (negsuc n) = neg_ℤ (pos (min (2 ^ 62) (suc n)))
+-- a number, unless it is past its bound
+abbrev pub number_of : ℕ → ℤ → Number
+number_of most z = if nat_lt most (nat_abs z) then Past else Fine z
 
-abbrev pub capped_query : Query → Asked
-capped_query q = record { x = capped q.x; y = capped q.y; z = capped q.z; w = pos (min (2 ^ 62) q.w) }
+abbrev pub IsBounded : ℕ → Number → Type 0
+IsBounded most (Fine z) = IsWithin most z
+IsBounded most Past = Unit {0}
 
-abbrev pub parsed : Command → Parsed
-parsed convert_contour = ConvertContour
-parsed convert_off = ConvertOff
-parsed (side_contour q) = SideContour (capped_query q)
-parsed (side_off q) = SideOff (capped_query q)
+abbrev pub IsAbove0 : Number → Type 0
+IsAbove0 (Fine z) = pos 0 <ℤ z
+IsAbove0 Past = Unit {0}
 
--- a number is past the bounds of a small point
-abbrev pub is_past : Asked → Bool
-is_past q = nat_lt (2 ^ 60) (nat_abs q.x) || (nat_lt (2 ^ 60) (nat_abs q.y) || (nat_lt (2 ^ 60) (nat_abs q.z) || nat_lt (2 ^ 40) (nat_abs q.w)))
+-- these are the numbers of the question, and none is past its bound
+pub record AreNumbers (q : Question) (x y z w : ℤ) : Type 0 where
+  pub fine : is_too_fine q ≡ false
+  pub x_is : x ≡ q.x
+  pub y_is : y ≡ q.y
+  pub z_is : z ≡ q.z
+  pub w_is : w ≡ pos q.w
 
--- the point is small, in the plane, and has these numbers
-pub record IsPointOf (q : Asked) (p : P2) : Type 0 where
-  pub fine : is_past q ≡ false
-  pub flat : q.z ≡ pos 0
-  pub x : p.x ≡ q.x
-  pub y : p.y ≡ q.y
-  pub w : p.w ≡ q.w
-  pub small : IsSmallPoint p
+abbrev pub IsQuery : Question → Query → Type 0
+IsQuery q (At x y z w) = AreNumbers q x y z w
+IsQuery q TooFine = is_too_fine q ≡ true
 
--- the point of space is small, and has these numbers
-pub record IsPointOf3 (q : Asked) (p : P3) : Type 0 where
-  pub fine : is_past q ≡ false
-  pub x : p.x ≡ q.x
-  pub y : p.y ≡ q.y
-  pub z : p.z ≡ q.z
-  pub w : p.w ≡ q.w
-  pub large : IsLargePoint3 p
+-- numbers within their bounds, and a denominator above 0
+pub record AreSmall (x y z w : ℤ) : Type 0 where
+  pub x_near : IsWithin MOST_COORDINATE x
+  pub y_near : IsWithin MOST_COORDINATE y
+  pub z_near : IsWithin MOST_COORDINATE z
+  pub w_near : IsWithin MOST_DENOMINATOR w
+  pub above : pos 0 <ℤ w
 
--- the first cause why the point of the plane is not looked at, and that of space
-abbrev pub Refuses : Asked → Refusal → Type 0
-Refuses q PointTooFine = is_past q ≡ true
-Refuses q PointOffPlane = (is_past q ≡ false) × (q.z ≢ pos 0)
-Refuses q _ = ⊥
+abbrev pub IsSoundQuery : Query → Type 0
+IsSoundQuery (At x y z w) = AreSmall x y z w
+IsSoundQuery TooFine = Unit {0}
 
-abbrev pub Refuses3 : Asked → Refusal → Type 0
-Refuses3 q PointTooFine = is_past q ≡ true
-Refuses3 q _ = ⊥
+abbrev pub IsSound : Command → Type 0
+IsSound (Convert k) = Unit {0}
+IsSound (Side k a) = IsSoundQuery a
 
--- the denominator of a point that is asked about is above 0
-abbrev pub IsSound : Parsed → Type 0
-IsSound ConvertContour = Unit {0}
-IsSound ConvertOff = Unit {0}
-IsSound (SideContour q) = pos 0 <ℤ q.w
-IsSound (SideOff q) = pos 0 <ℤ q.w
+abbrev pub ArePoint : Option Question → Option Query → Type 0
+ArePoint None None = Unit {0}
+ArePoint (Some q) (Some a) = IsQuery q a
+ArePoint _ _ = ⊥
+
+abbrev pub IsCommand : Request → Command → Type 0
+IsCommand (convert k) (Convert j) = j ≡ k
+IsCommand (side k q) (Side j a) = (j ≡ k) × IsQuery q a
+IsCommand _ _ = ⊥
+
+abbrev pub AreRead : Option Request → Option Command → Type 0
+AreRead None None = Unit {0}
+AreRead (Some r) (Some c) = IsCommand r c
+AreRead _ _ = ⊥

@@ -1,0 +1,117 @@
+//! Runs over devices that fail, and over a text of the greatest length.
+
+use crate::case::words_of;
+use bc_io::{MemSink, MemSource};
+use bc_top::{Refusal, Status, run};
+use std::alloc::Global;
+use std::test::Fail;
+
+const DISC: &str = "G00 X5 Y0\nG03 X5 Y0 I-5 J0\n";
+
+const DISC_TEXT: &str =
+    "// bcsg 1 contour\n// box -6 -6 6 6\nunion() {\n  difference() {\n    intersection() {\n      translate([-6,-6,0]) square([12,12]);\n      translate([0,0,0]) circle(r=sqrt(25));\n    }\n  }\n}\n";
+
+fn planned(alloc: Global, call: u64) -> Result<Vec<u64>, Fail> {
+    let mut fails = Vec::new(alloc);
+    fails.push(call)?;
+    Ok(fails)
+}
+
+// A run of a full circle over devices that fail: which read and which write, and how much room the sinks have.
+struct Fault {
+    read: u64,
+    write: u64,
+    room: usize,
+    note_room: usize,
+    code: u8,
+    out: &'static str,
+    notes: &'static str,
+}
+
+const FAULTS: [Fault; 5] = [
+    Fault {
+        read: 2,
+        write: 0,
+        room: 999,
+        note_room: 99,
+        code: 4,
+        out: "",
+        notes: "read fault\n",
+    },
+    Fault {
+        read: 0,
+        write: 3,
+        room: 999,
+        note_room: 99,
+        code: 5,
+        out: "//",
+        notes: "write fault\n",
+    },
+    Fault {
+        read: 0,
+        write: 0,
+        room: 0,
+        note_room: 99,
+        code: 5,
+        out: "",
+        notes: "write fault\n",
+    },
+    Fault {
+        read: 0,
+        write: 0,
+        room: 40,
+        note_room: 4,
+        code: 5,
+        out: "// bcsg 1 contour\n// box -6 -6 6 6\nunion",
+        notes: "writ",
+    },
+    Fault {
+        read: 0,
+        write: 0,
+        room: 999,
+        note_room: 0,
+        code: 0,
+        out: DISC_TEXT,
+        notes: "",
+    },
+];
+
+#[test]
+fn a_failing_device_leaves_a_front(rt: HostRuntime) -> Result<(), Fail> {
+    let alloc = rt.alloc();
+    let words = words_of(alloc, "convert contour")?;
+    for case in &FAULTS {
+        let bytes = Vec::from_slice(alloc, DISC.as_bytes())?;
+        let mut source = MemSource::new(bytes, 9, planned(alloc, case.read)?);
+        let made = MemSink::new(alloc, case.room, 1, planned(alloc, case.write)?);
+        let mut out = made.map_err(|_| "memory")?;
+        let made = MemSink::new(alloc, case.note_room, 9, Vec::new(alloc));
+        let mut notes = made.map_err(|_| "memory")?;
+        let status = run(alloc, words.as_slice(), &mut source, &mut out, &mut notes);
+        assert_eq!(rt; status.code(), case.code);
+        assert_eq!(rt; out.held(), case.out.as_bytes());
+        assert_eq!(rt; notes.held(), case.notes.as_bytes());
+    }
+    Ok(())
+}
+
+// Blanks alone: as many as a text may have, and one more.
+const SIZES: [(usize, Status); 2] = [
+    (1_048_576, Status::Done),
+    (1_048_577, Status::Refused(Refusal::TooLong)),
+];
+
+#[test]
+fn a_text_has_its_greatest_length(rt: HostRuntime) -> Result<(), Fail> {
+    let alloc = rt.alloc();
+    let words = words_of(alloc, "convert contour")?;
+    for (size, want) in &SIZES {
+        let bytes = vec![in alloc; b' '; *size]?;
+        let mut source = MemSource::new(bytes, 65_536, Vec::new(alloc));
+        let mut out = MemSink::new(alloc, 99, 9, Vec::new(alloc)).map_err(|_| "memory")?;
+        let mut notes = MemSink::new(alloc, 99, 99, Vec::new(alloc)).map_err(|_| "memory")?;
+        let status = run(alloc, words.as_slice(), &mut source, &mut out, &mut notes);
+        assert_eq!(rt; status, *want);
+    }
+    Ok(())
+}

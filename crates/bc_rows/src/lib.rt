@@ -1,0 +1,13 @@
+//! Rows of the program: runs of its one call over memory, with what comes out of them. There is nothing else here.
+#![tactic(auto)]
+
+#[cfg(test)]
+mod case;
+#[cfg(test)]
+mod contour_rows;
+#[cfg(test)]
+mod device_rows;
+#[cfg(test)]
+mod mesh_rows;
+#[cfg(test)]
+mod size_rows;
