@@ -1,0 +1,4 @@
+pub mod Loops
+pub mod Mapped
+pub mod Places
+pub mod Adding

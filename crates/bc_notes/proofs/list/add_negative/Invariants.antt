@@ -1,0 +1,14 @@
+use Rattle.std.proofs.Common.{◌≡◌, List, map, length}
+use Rattle.bc_cover.specs.Masks.{places_below}
+use Rattle.bc_cover.specs.Covers.{negative}
+use Rattle.bc_tree.specs.Cuts.{Product, product_of}
+use Rattle.bc_notes.specs.declared.shown.Shown.{Shown}
+use Rattle.bc_notes.specs.Noted.{noted_literals}
+use Rattle.bc_notes.specs.Chosen.{IsNoteOf, Adds}
+use Rattle.bc_notes.proofs.list.add_negative.Given as goal
+
+abbrev pub invariant-loop-i : goal.invariant-loop-i
+invariant-loop-i l = record {
+  count : l.k ≡ length (places_below l.i l.t.neg);
+  added : (inside : List Shown) (products : List Product) → Adds (IsNoteOf inside l.outside products) (noted_literals l.first (product_of l.t) (map negative (places_below l.i l.t.neg))) l.initial.notes.items l.notes.items;
+}

@@ -1,0 +1,5 @@
+pub mod Nodes
+pub mod Products
+pub mod Noted
+pub mod Chosen
+pub mod Laws

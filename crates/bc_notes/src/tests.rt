@@ -1,0 +1,128 @@
+use super::*;
+use bc_cover::cover;
+use bc_num::{P2, P3};
+use bc_text::{Mark, Note, Spot};
+use std::test::Fail;
+
+fn own_flat(note: &Note) -> Option<P2> {
+    match note.mark {
+        Mark::Own(Spot::Flat(p)) => Some(p),
+        _ => None,
+    }
+}
+
+fn own_solid(note: &Note) -> Option<P3> {
+    match note.mark {
+        Mark::Own(Spot::Solid(p)) => Some(p),
+        _ => None,
+    }
+}
+
+fn out_solid(note: &Note) -> Option<P3> {
+    match note.mark {
+        Mark::Out(Spot::Solid(p)) => Some(p),
+        _ => None,
+    }
+}
+
+fn is_out_undecided(note: &Note) -> bool {
+    match note.mark {
+        Mark::OutUndecided => true,
+        _ => false,
+    }
+}
+
+// The cut is node 1, and behind the meet and the box the literal is node 4. Its one mask has no point.
+#[test]
+fn notes_of_one_disc(rt: HostRuntime) -> Result<(), Fail> {
+    let terms = cover(rt.alloc(), &[1], &[0], 1).map_err(|_| "memory")?;
+    let inner = P2 { x: 2, y: -2, w: 1 };
+    let inside = [Shown {
+        mask: 1,
+        spot: Some(Spot::Flat(inner)),
+    }];
+    let outside = [Shown {
+        mask: 0,
+        spot: None,
+    }];
+    let notes = notes_of(rt.alloc(), &inside, &outside, terms.as_slice(), 1).map_err(|_| "memory")?;
+    assert_eq!(rt; notes.len(), 2);
+    assert_eq!(rt; notes.as_slice()[0].place, 1);
+    assert_eq!(rt; own_flat(&notes.as_slice()[0]), Some(inner));
+    assert_eq!(rt; notes.as_slice()[1].place, 4);
+    assert!(rt; is_out_undecided(&notes.as_slice()[1]));
+    Ok(())
+}
+
+// Of the tetrahedron with the corners (0, 0, 0), (1, 0, 0), (0, 1, 0) and (0, 0, 1) the planes are z = 0, y = 0, x = 0 and the
+// slanted one, which is taken away: one term, whose literals are nodes 4 to 7.
+#[test]
+fn notes_of_tetrahedron(rt: HostRuntime) -> Result<(), Fail> {
+    let inner = P3 {
+        x: 1,
+        y: 1,
+        z: 1,
+        w: 8,
+    };
+    let inside = [Shown {
+        mask: 0b0111,
+        spot: Some(Spot::Solid(inner)),
+    }];
+    let below = [
+        P3 {
+            x: 1,
+            y: 1,
+            z: -1,
+            w: 4,
+        },
+        P3 {
+            x: 1,
+            y: -1,
+            z: 1,
+            w: 4,
+        },
+        P3 {
+            x: -1,
+            y: 1,
+            z: 1,
+            w: 4,
+        },
+        P3 {
+            x: 1,
+            y: 1,
+            z: 1,
+            w: 1,
+        },
+    ];
+    let outside = [
+        Shown {
+            mask: 0b0110,
+            spot: Some(Spot::Solid(below[0])),
+        },
+        Shown {
+            mask: 0b0101,
+            spot: Some(Spot::Solid(below[1])),
+        },
+        Shown {
+            mask: 0b0011,
+            spot: Some(Spot::Solid(below[2])),
+        },
+        Shown {
+            mask: 0b1111,
+            spot: Some(Spot::Solid(below[3])),
+        },
+    ];
+    let terms = cover(rt.alloc(), &[0b0111], &[0b0110, 0b0101, 0b0011, 0b1111], 4).map_err(
+        |_| "memory",
+    )?;
+    let notes = notes_of(rt.alloc(), &inside, &outside, terms.as_slice(), 4).map_err(|_| "memory")?;
+    assert_eq!(rt; notes.len(), 5);
+    assert_eq!(rt; notes.as_slice()[0].place, 1);
+    assert_eq!(rt; own_solid(&notes.as_slice()[0]), Some(inner));
+    for i in 0..4usize {
+        let note = &notes.as_slice()[i + 1];
+        assert_eq!(rt; note.place, i as u128 + 4);
+        assert_eq!(rt; out_solid(note), Some(below[i]));
+    }
+    Ok(())
+}
