@@ -1,6 +1,7 @@
 -- Tokens without a fault go on to a tree: a pattern is completed with the numbers of a leaf or with zeros, a leaf is put where a
 -- node may stand, and the operators are ended.
 use Rattle.std.proofs.Common.{◌≡◌, ◌+◌, ◌≤◌, ℕ, zero, suc, Bool, true, false, not, ◌&&◌, ◌||◌, nat_eq, nat_lt, List, [], ◌∷◌, ◌++◌, length, length-append, drop, Option, None, Some, Result, Ok, Err, codes, bytes_eq, refl, sym, ap, ◌∙◌, subst, append_assoc, append-nil, if◌then◌else◌, eqb-true, arith}
+use Rattle.std.proofs.lemmas.Bool.{and_parts}
 use Rattle.std.specs.Prelude.{ℤ, pos, map}
 use Rattle.std.specs.Fmt.{signed_decimal, digits}
 use Rattle.bc_algebra.specs.Within.{IsWithin}
@@ -31,7 +32,7 @@ use Rattle.bc_read.specs.Table.{pattern, is_number_place, word_of, begins, chose
 use Rattle.bc_read.specs.Numbers.{is_numeral, value_of}
 use Rattle.bc_read.specs.Leaves.{form_of, numbers_of, leaf_of}
 use Rattle.bc_read.specs.Machine.{At, node, inside, whole, State, start, add, tree_of_kids, closed, close, at_node, mixes, with_leaf, ended_part, passed, at_number, at_shape, at_want, step_at, step, run, end_line, ◌>>=◌}
-use Rattle.bc_read.specs.Laws.{behind, BeginTree, IsUpToLeaf, LeafGoesOn, MayBe, Begins, LeafBegins, GoesOnAt, FrontGoesOn}
+use Rattle.bc_read.specs.Laws.{behind, BeginTree, IsUpToLeaf, LeafGoesOn, MayBe, IsBegun, LeafBegins, GoesOnAt, FrontGoesOn}
 use Rattle.bc_read.proofs.Patterns.{lead, places}
 use Rattle.bc_read.proofs.Seen.{reached, Inside, StandsAt, Stands, Shaped, shaped, same-ok, at-start, stands-on}
 use Rattle.bc_read.proofs.Spelled.{Comes, comes, Near, nodes, ins, opens, step-number, step-word, near-0, numbers-near, leaf-ends, leaf-to, close-to, ends}
@@ -192,20 +193,15 @@ abbrev all_fit : List ℕ → Bool
 all_fit [] = true
 all_fit (b ∷ bs) = fits b && all_fit bs
 
-and-parts : (c d : Bool) → (c && d) ≡ true → (c ≡ true) × (d ≡ true)
-and-parts true true e = (refl, refl)
-and-parts true false e = cc e
-and-parts false d e = cc e
-
 not-true : (c : Bool) → not c ≡ true → c ≡ false
 not-true true e = cc e
 not-true false e = refl
 
 mark-closed : (b : ℕ) → is_only_mark b ≡ true → Closed (b ∷ 32 ∷ []) ((b ∷ []) ∷ [])
 mark-closed b h =
-    let p = and-parts (not (is_digit b)) (not (nat_eq b 45) && (not (is_letter b) && is_mark b)) h in
-    let q = and-parts (not (nat_eq b 45)) (not (is_letter b) && is_mark b) p.1 in
-    let r = and-parts (not (is_letter b)) (is_mark b) q.1 in
+    let p = and_parts (not (is_digit b)) (not (nat_eq b 45) && (not (is_letter b) && is_mark b)) h in
+    let q = and_parts (not (nat_eq b 45)) (not (is_letter b) && is_mark b) p.1 in
+    let r = and_parts (not (is_letter b)) (is_mark b) q.1 in
     record {
       is = λ rest.
           let bs : List ℕ = 32 ∷ rest in
@@ -234,7 +230,7 @@ fit-by b z false false false h = own-closed b (nat_eq b 114) refl h
 fill-closed : (bs : List ℕ) (ms : List ℤ) → all_fit bs ≡ true → Closed (fill_bytes bs ms) (fill_words bs ms)
 fill-closed [] ms h = nothing
 fill-closed (b ∷ bs) ms h =
-    let k = and-parts (fits b) (all_fit bs) h in
+    let k = and_parts (fits b) (all_fit bs) h in
     both {xs = word_for b ms ++ 32 ∷ []} {ts = word_for b ms ∷ []} (fit-by b (next_number ms) (is_number_place b) (nat_eq b 115) (nat_eq b 116) k.0) (fill-closed bs (left_for b ms) k.1)
 
 -- as many numbers are said as the pattern has places
@@ -519,7 +515,7 @@ more-near : (l : ALeaf) (ns ms : List ℤ) → IsLeaf l → numbers_of l ≡ ns 
 more-near l ns ms h e = near-behind ns ms (subst Near e (numbers-near l h))
 
 closing-tree : (form : Form) (b : ℕ) (wants : List ℕ) (ns : List ℤ) (f : Place) (stack : List Open) (seen : Option Bool) (sofar : List (List ℕ)) → Inside (Closing form) (b ∷ wants) ns sofar → all_fit (b ∷ wants) ≡ true
-    → (l : ALeaf) → Begins (Closing form) ns seen l → GoesOn (ins (Closing form) (b ∷ wants) ns f stack seen)
+    → (l : ALeaf) → IsBegun (Closing form) ns seen l → GoesOn (ins (Closing form) (b ∷ wants) ns f stack seen)
 closing-tree form b wants ns f stack seen sofar i h l g =
     let ms : List ℤ = g.more in
     let all : length ns + length ms ≡ places (lead (Closing (form_of l))) = more-count l ns ms g.numbers in
@@ -661,7 +657,7 @@ good-shape (Some form) ns f stack seen t = good-pattern (Closing form)
 good-want : (p : Part) (wants : List ℕ) (ns : List ℤ) (f : Place) (stack : List Open) (seen : Option Bool) (t : AToken) → all_fit wants ≡ true → KeepsGood (at_want p wants ns f stack seen t)
 good-want p [] ns f stack seen t h = good-shape (chosen p t.text) ns f stack seen t
 good-want p (b ∷ wants) ns f stack seen t h =
-    let k = and-parts (fits b) (all_fit wants) h in
+    let k = and_parts (fits b) (all_fit wants) h in
     good-if (is_number_place b) _ _
     (good-if (is_numeral t.text) _ _ (good-number (value_of t.text) p wants ns f stack seen t k.1) tt)
     (good-if (bytes_eq t.text (word_of b)) _ _ (good-passed p wants ns f stack seen k.1) tt)

@@ -1,5 +1,6 @@
 -- The tokens that patterns stand for: of a whole node's opening or leaf, with its first name and the name of its shape.
 use Rattle.std.proofs.Common.{◌≡◌, ℕ, suc, Bool, true, false, ◌&&◌, nat_eq, List, [], ◌∷◌, ◌++◌, length, drop, codes, bytes_eq, refl, ap, ◌∙◌, arith, if◌then◌else◌}
+use Rattle.std.proofs.lemmas.Slice.Eq.{bytes_eq-Decides}
 use Rattle.std.specs.Prelude.{ℤ}
 use Rattle.std.specs.Fmt.{signed_decimal}
 use Rattle.bc_read.specs.declared.part.Op.TheVariants.{Union, Meet, Cut}
@@ -37,6 +38,12 @@ lead (Closing Tile) = codes "t([#,#,#])q([#,#]);"
 abbrev pub plain : List ℕ → Bool
 plain [] = true
 plain (b ∷ bs) = bytes_eq (word_at b) (word_of b) && plain bs
+
+-- no byte of a plain pattern stands for another name than in the table
+pub plain-here : (b : ℕ) (wants : List ℕ) (c d : Bool) → bytes_eq (word_at b) (word_of b) ≡ c → plain wants ≡ d → (c && d) ≡ true → (word_at b ≡ word_of b) × (plain wants ≡ true)
+plain-here b wants true true e f h = ((bytes_eq-Decides (word_at b) (word_of b)).0 e, f)
+plain-here b wants true false e f h = cc h
+plain-here b wants false d e f h = cc h
 
 abbrev pub head_word : List ℤ → List ℕ
 head_word [] = []

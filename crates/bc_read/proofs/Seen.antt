@@ -1,5 +1,5 @@
 -- What is read is spelled: the tokens that a state of the machine stands for.
-use Rattle.std.proofs.Common.{◌≡◌, ◌⊎◌, inl, inr, ◌+◌, ◌<◌, ◌≤◌, ℕ, suc, max, Bool, true, false, ◌&&◌, nat_lt, List, [], ◌∷◌, ◌++◌, length, length-append, Option, None, Some, Result, Ok, Err, codes, bytes_eq, refl, sym, ap, ◌∙◌, subst, append_assoc, append-nil, if◌then◌else◌, rules, arith}
+use Rattle.std.proofs.Common.{◌≡◌, ◌⊎◌, inl, inr, ◌+◌, ◌<◌, ◌≤◌, ℕ, suc, max, Bool, true, false, nat_lt, List, [], ◌∷◌, ◌++◌, length, length-append, Option, None, Some, Result, Ok, Err, codes, bytes_eq, refl, sym, ap, ◌∙◌, subst, append_assoc, append-nil, if◌then◌else◌, rules, arith}
 use Rattle.std.proofs.lemmas.Slice.Eq.{bytes_eq-Decides}
 use Rattle.std.proofs.lemmas.Bool.{ltb-true}
 use Rattle.std.specs.Prelude.{ℤ}
@@ -35,7 +35,7 @@ use Rattle.bc_read.specs.Laws.{ReadIsSpelled, HasTreeOrFault}
 use Rattle.bc_read.proofs.LeafTests.{leaf_tells}
 use Rattle.bc_read.proofs.NumberLaws.{value-is}
 use Rattle.bc_read.proofs.Turns.{Gives}
-use Rattle.bc_read.proofs.Patterns.{word_at, lead, plain, spelled, places, spelled-word, places-word, spelled-number, places-number}
+use Rattle.bc_read.proofs.Patterns.{word_at, lead, plain, plain-here, spelled, places, spelled-word, places-word, spelled-number, places-number}
 
 -- ---- shapes
 
@@ -372,11 +372,6 @@ passed-stands : (p : Part) (wants : List ℕ) (ns : List ℤ) (f : Place) (stack
 passed-stands p [] ns f stack seen s' ws sofar r i w o e = ended-stands p ns f stack seen s' ws sofar r i w o e
 passed-stands p (b ∷ wants) ns f stack seen s' ws sofar r i w o e =
     along (record { stack = stack; seen = seen; at = inside p (b ∷ wants) ns f }) s' ws e (record { sofar = sofar; all = w; opens = o; here = (r, i) })
-
-plain-here : (b : ℕ) (wants : List ℕ) (c d : Bool) → bytes_eq (word_at b) (word_of b) ≡ c → plain wants ≡ d → (c && d) ≡ true → (word_at b ≡ word_of b) × (plain wants ≡ true)
-plain-here b wants true true e f h = (same_text (word_at b) (word_of b) e, f)
-plain-here b wants true false e f h = cc h
-plain-here b wants false d e f h = cc h
 
 moved-on : (p : Part) (b : ℕ) (wants came : List ℕ) → came ++ (b ∷ wants) ≡ lead p → (came ++ b ∷ []) ++ wants ≡ lead p
 moved-on p b wants came e = append_assoc came (b ∷ []) wants ∙ e

@@ -1,5 +1,5 @@
 -- A text that spells a tree is read as this tree.
-use Rattle.std.proofs.Common.{◌≡◌, ◌⊎◌, inl, inr, ◌+◌, ◌<◌, ◌≤◌, ℕ, zero, suc, Bool, true, false, ◌&&◌, List, [], ◌∷◌, ◌++◌, length, drop, Option, None, Some, Result, Ok, Err, codes, bytes_eq, refl, sym, ap, ◌∙◌, subst, append_assoc, append-nil, if◌then◌else◌, arith}
+use Rattle.std.proofs.Common.{◌≡◌, ◌⊎◌, inl, inr, ◌+◌, ◌<◌, ◌≤◌, ℕ, zero, suc, Bool, true, false, List, [], ◌∷◌, ◌++◌, length, drop, Option, None, Some, Result, Ok, Err, codes, bytes_eq, refl, sym, ap, ◌∙◌, subst, append_assoc, append-nil, if◌then◌else◌, arith}
 use Rattle.std.proofs.lemmas.Slice.Eq.{bytes_eq-Decides}
 use Rattle.std.proofs.lemmas.Bool.{lt-ltb}
 use Rattle.std.specs.Prelude.{ℤ, pos, negsuc, neg_ℤ, nat_abs, ◌-ℤ◌}
@@ -41,7 +41,7 @@ use Rattle.bc_read.specs.Machine.{node, inside, State, add, tree_of_kids, closed
 use Rattle.bc_read.specs.Laws.{SpelledIsRead, FaultSpellsNone, HasOneFault}
 use Rattle.bc_read.proofs.LeafTests.{told}
 use Rattle.bc_read.proofs.NumberLaws.{is-value, is-numeral}
-use Rattle.bc_read.proofs.Patterns.{word_at, plain, head_word, spelled, places}
+use Rattle.bc_read.proofs.Patterns.{word_at, plain, plain-here, head_word, spelled, places}
 use Rattle.bc_read.proofs.Seen.{shape-Leaf, shape-Union, shape-Meet, shape-Cut, KindOf, IsOk}
 
 -- ---- tokens that are read
@@ -107,11 +107,6 @@ pub step-word : (p : Part) (b : ℕ) (wants : List ℕ) (ns : List ℤ) (f : Pla
 step-word p b wants ns f stack seen t n e =
     ap (λ c. if c then (if is_numeral t.text then at_number (value_of t.text) p wants ns f stack seen t else Err (BadShape t.line t.nth)) else (if bytes_eq t.text (word_of b) then passed p wants ns f stack seen else Err (BadShape t.line t.nth))) n
     ∙ ap (λ c. if c then passed p wants ns f stack seen else Err (BadShape t.line t.nth)) ((bytes_eq-Decides t.text (word_of b)).1 e)
-
-plain-here : (b : ℕ) (wants : List ℕ) (c d : Bool) → bytes_eq (word_at b) (word_of b) ≡ c → plain wants ≡ d → (c && d) ≡ true → (word_at b ≡ word_of b) × (plain wants ≡ true)
-plain-here b wants true true e f h = ((bytes_eq-Decides (word_at b) (word_of b)).0 e, f)
-plain-here b wants true false e f h = cc h
-plain-here b wants false d e f h = cc h
 
 -- what is left of a pattern leads to its end
 record Through (p : Part) (wants : List ℕ) (ns ms : List ℤ) (f : Place) (stack : List Open) (seen : Option Bool) (s' : State) : Type 0 where

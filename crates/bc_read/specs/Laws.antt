@@ -79,7 +79,7 @@ MayBe (Closing form) g = form ≡ g
 MayBe p g = (w : List ℕ) × (chosen p w ≡ Some g)
 
 -- the part and the numbers so far begin this leaf, which is within its ranges and of the kind of those before it
-pub record Begins (p : Part) (ns : List ℤ) (seen : Option Bool) (l : ALeaf) : Type 0 where
+pub record IsBegun (p : Part) (ns : List ℤ) (seen : Option Bool) (l : ALeaf) : Type 0 where
   pub in_range : IsLeaf l
   pub kind : mixes seen (is_solid_leaf l) ≡ false
   pub form : MayBe p (form_of l)
@@ -88,7 +88,7 @@ pub record Begins (p : Part) (ns : List ℤ) (seen : Option Bool) (l : ALeaf) : 
 
 -- inside a leaf: where it may still be one that may stand here, the tokens begin a tree; and it can come to its `;` in any case
 pub record LeafBegins (p : Part) (ns : List ℤ) (f : Place) (front : List AToken) (s : State) : Type 0 where
-  pub tree : (l : ALeaf) → Begins p ns s.seen l → BeginTree front
+  pub tree : (l : ALeaf) → IsBegun p ns s.seen l → BeginTree front
   pub leaf : LeafGoesOn f s
 
 abbrev pub GoesOnIn : Part → List ℤ → Place → List AToken → State → Type 0
