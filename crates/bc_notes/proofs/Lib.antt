@@ -1,4 +1,4 @@
-pub mod Loops
+pub mod Choosing
 pub mod Mapped
 pub mod Places
 pub mod Adding

@@ -1,5 +1,5 @@
 //! Points for terms and for literals, each a point of a mask that tells.
-ghost use Rattle.std.specs.Prelude.{◌≡◌, ◌↔◌, ◌<◌, ℕ, IsTrue, IfSome, Some, Any, length, slice_get};
+ghost use Rattle.std.specs.Prelude.{◌≡◌, ◌↔◌, ◌<◌, ℕ, IsTrue, IsSome, IfSome, None, Some, Any, length, slice_get, false};
 ghost use Rattle.bc_cover.specs.Covers.{Holds};
 ghost use Rattle.bc_cover.specs.Masks.{admits};
 ghost use Rattle.bc_notes.specs.Products.{products_of};
@@ -9,6 +9,40 @@ use crate::Shown;
 use crate::words::is_admitted;
 use bc_cover::Term;
 use bc_text::Spot;
+
+// Of so many masks at most the points are compared.
+const MOST_COMPARED: usize = 1024;
+
+fn denominator(spot: &Spot) -> i128 {
+    match spot {
+        Spot::Flat(p) => p.w,
+        Spot::Solid(p) => p.w,
+    }
+}
+
+// Whether there is a point, and the best so far, if there is one, has a larger denominator.
+fn is_plainer(spot: &Option<Spot>, best: &Option<Spot>) -> bool
+    ensures { result ≡ false → best.now ≡ None → spot.now ≡ None }
+{
+    match spot {
+        None => false,
+        Some(spot) => match best {
+            None => true,
+            Some(best) => denominator(spot) < denominator(best),
+        },
+    }
+}
+
+// The first, or the second where the first is none.
+fn first_of(spot: Option<Spot>, other: Option<Spot>) -> Option<Spot>
+    ensures some { IsSome spot → result ≡ spot }
+    ensures none { spot ≡ None → result ≡ other }
+{
+    match spot {
+        Some(spot) => Some(spot),
+        None => other,
+    }
+}
 
 // Whether the term at place `i` holds the mask, and no other term does.
 fn is_alone(terms: &[Term], i: usize, mask: u64) -> bool
@@ -52,20 +86,22 @@ fn named_own(inside: &[Shown], named: usize, terms: &[Term], i: usize) -> Option
 }
 
 /// A point of a mask that the term at place `i` holds and no other, where one of the masks is such and has a point: that of
-/// the named mask, or else the first. Only where the named mask has no point does it look through the list.
+/// the named mask; but of at most 1,024 masks one with the least denominator. Only where the named mask has no point does it
+/// look through a longer list.
 pub fn choose_own(inside: &[Shown], named: usize, terms: &[Term], i: usize) -> Option<Spot>
     requires within { i < length terms.now }
     ensures { IsChosen (IsAlone (products_of terms.now) i) inside.now result }
 {
-    if let Some(spot) = named_own(inside, named, terms, i) {
-        return Some(spot);
+    let mut best = named_own(inside, named, terms, i);
+    if inside.len() > MOST_COMPARED && best.is_some() {
+        return best;
     }
     for m in inside {
-        if let Some(spot) = own_at(m, terms, i) {
-            return Some(spot);
+        if is_plainer(&m.spot, &best) {
+            best = first_of(own_at(m, terms, i), best);
         }
     }
-    None
+    best
 }
 
 // The point of the mask, where the mask has all bits of `pos` and none of `neg`.
@@ -91,17 +127,19 @@ fn named_out(outside: &[Shown], named: usize, pos: u64, neg: u64) -> Option<Spot
 }
 
 /// A point of a mask with all bits of `pos` and none of `neg`, where one of the masks is such and has a point: that of the
-/// named mask, or else the first. Only where the named mask has no point does it look through the list.
+/// named mask; but of at most 1,024 masks one with the least denominator. Only where the named mask has no point does it look
+/// through a longer list.
 pub fn choose_out(outside: &[Shown], named: usize, pos: u64, neg: u64) -> Option<Spot>
     ensures { IsChosen (λ mask. IsTrue (admits pos neg mask)) outside.now result }
 {
-    if let Some(spot) = named_out(outside, named, pos, neg) {
-        return Some(spot);
+    let mut best = named_out(outside, named, pos, neg);
+    if outside.len() > MOST_COMPARED && best.is_some() {
+        return best;
     }
     for m in outside {
-        if let Some(spot) = out_at(m, pos, neg) {
-            return Some(spot);
+        if is_plainer(&m.spot, &best) {
+            best = first_of(out_at(m, pos, neg), best);
         }
     }
-    None
+    best
 }

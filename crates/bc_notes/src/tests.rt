@@ -11,6 +11,13 @@ fn own_flat(note: &Note) -> Option<P2> {
     }
 }
 
+fn out_flat(note: &Note) -> Option<P2> {
+    match note.mark {
+        Mark::Out(Spot::Flat(p)) => Some(p),
+        _ => None,
+    }
+}
+
 fn own_solid(note: &Note) -> Option<P3> {
     match note.mark {
         Mark::Own(Spot::Solid(p)) => Some(p),
@@ -124,5 +131,30 @@ fn notes_of_tetrahedron(rt: HostRuntime) -> Result<(), Fail> {
         assert_eq!(rt; note.place, i as u128 + 4);
         assert_eq!(rt; out_solid(note), Some(below[i]));
     }
+    Ok(())
+}
+
+// Each of the outside masks would do for the one literal: the point with the smaller denominator is named.
+#[test]
+fn plainer_point_is_named(rt: HostRuntime) -> Result<(), Fail> {
+    let terms = cover(rt.alloc(), &[1], &[0, 2], 2).map_err(|_| "memory")?;
+    let inside = [Shown {
+        mask: 1,
+        spot: Some(Spot::Flat(P2 { x: 2, y: -2, w: 1 })),
+    }];
+    let plain = P2 { x: 9, y: 6, w: 2 };
+    let outside = [
+        Shown {
+            mask: 0,
+            spot: Some(Spot::Flat(P2 { x: 31, y: 17, w: 6 })),
+        },
+        Shown {
+            mask: 2,
+            spot: Some(Spot::Flat(plain)),
+        },
+    ];
+    let notes = notes_of(rt.alloc(), &inside, &outside, terms.as_slice(), 2).map_err(|_| "memory")?;
+    assert_eq!(rt; notes.len(), 2);
+    assert_eq!(rt; out_flat(&notes.as_slice()[1]), Some(plain));
     Ok(())
 }
