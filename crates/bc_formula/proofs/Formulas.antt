@@ -13,10 +13,16 @@ use Rattle.bc_tree.specs.Spells.{IsAllowed}
 use Rattle.bc_tree.proofs.CoverHolds.{cover_holds, cover_in_block}
 use Rattle.bc_formula.specs.declared.terms.Formula.{Formula}
 use Rattle.bc_formula.specs.declared.terms.Division.{Division}
+use Rattle.bc_text.specs.declared.note.Note.{Note}
+use Rattle.bc_text.specs.Numbered.{Ascend, EndEarly}
 use Rattle.bc_formula.specs.Geometry.{Geometry}
+use Rattle.bc_formula.specs.Notes.{AreNotes, AreNeeded}
+use Rattle.bc_formula.specs.Shown.{masks_of, TellsSides}
 use Rattle.bc_formula.specs.Headline.{IsOfLeaves, ComesBefore, Means, IsFormula}
 use Rattle.bc_formula.specs.Divisions.{AreBits, AreDivided, IsDivision, IsMadeOf}
 use Rattle.bc_formula.proofs.Mapped.{unmapped_at}
+use Rattle.bc_formula.proofs.Marks.{notes_say}
+use Rattle.bc_formula.proofs.Needed.{are_notes, are_needed}
 
 -- a test is passed or not
 pub true_or_not : (b : Bool) → IsTrue b ⊎ (IsTrue b → ⊥)
@@ -70,8 +76,9 @@ module _ {B P X : Type 0} (k : Geometry B P X) (b : B) (box : X) (leaves : List 
       let below = cover.bits_below i d l in
       record { pos_below = below.0; neg_below = below.1; apart = cover.no_bit_shared i d l }
 
-  formula_is : (tree : Shape) → tree ≡ cover_shape (k.block box) leaves terms → IsFormula k b box tree
-  formula_is tree is = record {
+  formula_is : (tree : Shape) (notes : List Note) → tree ≡ cover_shape (k.block box) leaves terms → AreNotes k b box leaves (map product_of terms) notes → AreNeeded k b box (length leaves) (map product_of terms) → Ascend notes → EndEarly notes
+      → IsFormula k b box tree notes
+  formula_is tree notes is says needed rising early = record {
     within = facts.within;
     box_of = facts.box_of;
     allowed = subst IsAllowed (sym is) (facts.allowed terms);
@@ -84,11 +91,21 @@ module _ {B P X : Type 0} (k : Geometry B P X) (b : B) (box : X) (leaves : List 
       form = is ∙ products_are (k.block box) leaves terms;
     };
     means = subst (Means k b box) (sym is) means;
+    says = says;
+    needed = needed;
+    rising = rising;
+    early = early;
   }
 
 -- what is made of a boundary's division is a formula of the boundary
-pub formula_made : {B P X : Type 0} (k : Geometry B P X) (b : B) (box : X) (d : Division) (f : Formula) → IsDivision k b box d → IsMadeOf d f → (f.head ≡ k.head box) × IsFormula k b box (shape f.tree)
-formula_made k b box d f h made = (
-  made.head ∙ h.head,
-  formula_is k b box d.leaves h.mask_at d.inside.items d.outside.items made.terms h.bits h.divided made.cover (shape f.tree) (made.form ∙ ap (λ (l : Leaf). cover_shape l d.leaves made.terms) h.block),
-)
+pub formula_made : {B P X : Type 0} (k : Geometry B P X) (b : B) (box : X) (d : Division) (f : Formula) → IsDivision k b box d → IsMadeOf d f → (f.head ≡ k.head box) × IsFormula k b box (shape f.tree) f.notes.items
+formula_made k b box d f h made =
+    let tells : TellsSides k b box d.leaves h.mask_at = record { in_block = h.bits.in_block; bits = h.bits.bits } in
+    let products = map product_of made.terms in
+    let each = notes_say k b box d.leaves h.mask_at d.inside.items d.outside.items made.terms tells h.parts.inside_shown h.parts.outside_shown made.cover f.notes.items made.notes in
+    let says = are_notes k b box d.leaves products f.notes.items h.boxed h.half_spaces each in
+    let needed = are_needed k b box (length d.leaves) d.inside.items d.outside.items made.terms h.parts.inside_masks h.parts.outside_masks made.cover in (
+      made.head ∙ h.head,
+      formula_is k b box d.leaves h.mask_at (masks_of d.inside.items) (masks_of d.outside.items) made.terms h.bits h.divided made.cover (shape f.tree) f.notes.items
+          (made.form ∙ ap (λ (l : Leaf). cover_shape l d.leaves made.terms) h.block) says needed made.rising made.early,
+    )

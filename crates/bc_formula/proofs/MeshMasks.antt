@@ -35,7 +35,7 @@ use Rattle.bc_formula.proofs.TwoLists.{any_contained, distinct_masks, masks_belo
 -- ---- free points
 
 -- strictly inside the box is Above each of its walls
-above_walls3 : (b : Box3) (p : P3) → IsInside3 b p → All (λ w. plane_side w p ≡ Above) (walls3 b)
+pub above_walls3 : (b : Box3) (p : P3) → IsInside3 b p → All (λ w. plane_side w p ≡ Above) (walls3 b)
 above_walls3 b p h =
     All-cons P (left3 b) (right3 b ∷ (front3 b ∷ (rear3 b ∷ (low3 b ∷ (high3 b ∷ []))))) (above_by_gap (b.x0 *ℤ p.w) p.x (plane_value (left3 b) p) h.x_above (first b.x0 p.x p.y p.z p.w))
     (All-cons P (right3 b) (front3 b ∷ (rear3 b ∷ (low3 b ∷ (high3 b ∷ [])))) (above_by_gap p.x (b.x1 *ℤ p.w) (plane_value (right3 b) p) h.x_below (second b.x1 p.x p.y p.z p.w))

@@ -14,6 +14,9 @@ use Rattle.bc_tree.specs.declared.tree.Leaf.{Leaf}
 use Rattle.bc_tree.specs.declared.tree.Leaf.TheVariants.{Strip, Disc, Tile}
 use Rattle.bc_tree.specs.Leaves.{InLeaf2}
 use Rattle.bc_text.specs.declared.note.Head.TheVariants.{Contour}
+use Rattle.bc_text.specs.declared.note.Spot.TheVariants.{Flat}
+use Rattle.bc_num.specs.Points.{IsReduced2}
+use Rattle.bc_formula.specs.ContourPoints.{IsSampleOf, IsCandidateMask, HasArc}
 use Rattle.bc_formula.specs.Geometry.{Geometry}
 
 -- the direction whose normal, turned to the left, is that of the line
@@ -46,4 +49,9 @@ contours = record {
   block = Tile;
   head = Contour;
   in_leaf = InLeaf2;
+  reduced = IsReduced2;
+  spot = Flat;
+  named = IsSampleOf;
+  may_fail = HasArc;
+  has_mask = IsCandidateMask;
 }

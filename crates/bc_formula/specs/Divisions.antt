@@ -1,7 +1,7 @@
 -- What a boundary divides its box into: the leaves of its half-spaces, and the masks inside and outside, of which a cover
 -- makes the formula.
-use Rattle.std.specs.Prelude.{◌≡◌, ◌≢◌, ◌↔◌, ◌⊎◌, ◌<◌, ◌≤◌, ◌^◌, ℕ, List, ◌++◌, length, slice_get, Some}
-use Rattle.std.specs.List.{All, AllPairs, Contains}
+use Rattle.std.specs.Prelude.{◌≡◌, ◌≢◌, ◌↔◌, ◌⊎◌, ◌<◌, ◌≤◌, ◌^◌, ℕ, true, false, List, ◌++◌, length, slice_get, Some}
+use Rattle.std.specs.List.{All, AllPairs, AllZip, Contains}
 use Rattle.std.specs.Int.{bit_at}
 use Rattle.bc_cover.specs.declared.term.Term.{Term}
 use Rattle.bc_cover.specs.Covers.{IsCover}
@@ -9,9 +9,15 @@ use Rattle.bc_tree.specs.declared.tree.Leaf.{Leaf}
 use Rattle.bc_tree.specs.Shape.{shape}
 use Rattle.bc_tree.specs.Cuts.{cover_shape}
 use Rattle.bc_tree.specs.Spells.{IsAllowed}
+use Rattle.bc_text.specs.Numbered.{Ascend, EndEarly}
+use Rattle.bc_notes.specs.Nodes.{is_half_space}
+use Rattle.bc_notes.specs.Products.{products_of}
+use Rattle.bc_notes.specs.Noted.{noted}
+use Rattle.bc_notes.specs.Chosen.{IsNoteOf}
 use Rattle.bc_formula.specs.declared.terms.Formula.{Formula}
 use Rattle.bc_formula.specs.declared.terms.Division.{Division}
 use Rattle.bc_formula.specs.Geometry.{Geometry}
+use Rattle.bc_formula.specs.Shown.{masks_of, AreParts}
 
 -- the masks are ones that a cover is found of: none stands twice, and none has a bit for which there is no leaf
 pub record AreMasks (leaves : List Leaf) (inside outside : List ℕ) : Type 0 where
@@ -44,12 +50,19 @@ pub record IsDivision {B P X : Type 0} (k : Geometry B P X) (b : B) (box : X) (d
   pub head : d.head ≡ k.head box
   pub mask_at : P → ℕ
   pub bits : AreBits k b box d.leaves mask_at
-  pub masks : AreMasks d.leaves d.inside.items d.outside.items
-  pub divided : AreDivided k b box mask_at d.inside.items d.outside.items
+  pub boxed : is_half_space (k.block box) ≡ false
+  pub half_spaces : All (λ l. is_half_space l ≡ true) d.leaves
+  pub masks : AreMasks d.leaves (masks_of d.inside.items) (masks_of d.outside.items)
+  pub divided : AreDivided k b box mask_at (masks_of d.inside.items) (masks_of d.outside.items)
+  pub parts : AreParts k b box mask_at d.inside.items d.outside.items
 
 -- the formula is that of terms that cover the masks of the division
 pub record IsMadeOf (d : Division) (f : Formula) : Type 0 where
   pub terms : List Term
-  pub cover : IsCover d.inside.items d.outside.items (length d.leaves) terms
+  pub cover : IsCover (masks_of d.inside.items) (masks_of d.outside.items) (length d.leaves) terms
   pub form : shape f.tree ≡ cover_shape d.block d.leaves terms
   pub head : f.head ≡ d.head
+  -- one note for each term and each literal, chosen by the masks; the places ascend, and are those of a tree
+  pub notes : AllZip (IsNoteOf d.inside.items d.outside.items (products_of terms)) (noted (length d.leaves) (products_of terms)) f.notes.items
+  pub rising : Ascend f.notes.items
+  pub early : EndEarly f.notes.items

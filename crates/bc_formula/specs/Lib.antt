@@ -1,5 +1,12 @@
 pub mod Geometry
+pub mod ContourPoints
+pub mod MeshPoints
 pub mod ContourGeometry
 pub mod MeshGeometry
 pub mod Headline
+pub mod Notes
+pub mod TakenOut
+pub mod Shown
 pub mod Divisions
+pub mod ContourDivision
+pub mod MeshDivision

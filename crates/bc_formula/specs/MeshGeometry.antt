@@ -12,6 +12,9 @@ use Rattle.bc_tree.specs.declared.tree.Leaf.{Leaf}
 use Rattle.bc_tree.specs.declared.tree.Leaf.TheVariants.{Slab, Block}
 use Rattle.bc_tree.specs.Leaves.{InLeaf3}
 use Rattle.bc_text.specs.declared.note.Head.TheVariants.{Solid}
+use Rattle.bc_text.specs.declared.note.Spot.TheVariants as spots
+use Rattle.bc_num.specs.Points.{IsReduced3}
+use Rattle.bc_formula.specs.MeshPoints.{IsCellMask}
 use Rattle.bc_formula.specs.Geometry.{Geometry}
 
 -- the normal of the plane
@@ -43,4 +46,9 @@ meshes = record {
   block = Block;
   head = Solid;
   in_leaf = InLeaf3;
+  reduced = IsReduced3;
+  spot = spots.Solid;
+  named = λ fs box p. Unit {0};
+  may_fail = λ fs. ⊥;
+  has_mask = IsCellMask;
 }

@@ -1,4 +1,4 @@
-ghost use Rattle.std.specs.Prelude.{◌≡◌, ◌<◌, ◌++◌, map, length, slice_get, Some, IfOk, IfErr, OnOk};
+ghost use Rattle.std.specs.Prelude.{◌≡◌, ◌<◌, ◌++◌, map, length, slice_get, Some, IfOk, IfErr, OnOk, option_map};
 ghost use Rattle.bc_natural.specs.Curves.{AreCurves};
 ghost use Rattle.bc_natural.specs.Limits.{AreSized, AreFew, IsLimitFault, IsNearBox};
 ghost use Rattle.bc_tree.specs.declared.tree.Leaf.TheVariants.{Disc};
@@ -8,56 +8,75 @@ ghost use Rattle.bc_space.specs.Lines.{IsSizedLine};
 ghost use Rattle.bc_num.specs.declared.box2.Box2.{Box2 as ABox};
 ghost use Rattle.bc_natural.specs.Masks.{curve_mask};
 ghost use Rattle.bc_text.specs.declared.note.Head.TheVariants.{Contour};
+ghost use Rattle.bc_text.specs.declared.note.Spot.TheVariants.{Flat as FlatSpot};
+ghost use Rattle.bc_formula.specs.Shown.{masks_of, AreParts};
+ghost use Rattle.bc_formula.specs.ContourDivision.{shown2};
 ghost use Rattle.bc_formula.specs.ContourGeometry.{contours, direction_of, leaves_of, strip_leaf};
 ghost use Rattle.bc_formula.specs.Headline.{IsFormula};
 
-use crate::terms::{Division, Formula, Masks, formula_of};
+use crate::terms::{Division, Formula, Parts, formula_of};
 use bc_cells::cells;
 use bc_classify::laws::odd_mask_law;
 use bc_classify::{Marked2, classify2};
 use bc_discs::candidates;
 use bc_natural::{CurveTable, NatFault, box2, curves};
-use bc_num::{Box2, List, Memory, V2};
+use bc_notes::Shown;
+use bc_num::{Box2, List, Memory, P2, V2};
 use bc_parity::laws::outside_law2;
 use bc_solid::Profile;
 use bc_space::{Flat, Line2};
-use bc_text::Head;
+use bc_text::{Head, Spot};
 use bc_tree::{Frame2, Leaf};
 use std::alloc::Global;
 
-fn masks(alloc: Global, marks: &[Marked2]) -> Result<Vec<u64>, Memory>
-    ensures { IfOk result (λ v. v.items ≡ map (λ m. m.mask) marks.now) }
+// The point as it stands in notes.
+fn spot(seen: Option<P2>) -> Option<Spot>
+    ensures { result ≡ option_map FlatSpot seen }
 {
-    let mut masks = Vec::new(alloc);
-    for mark in marks {
-        masks.push(mark.mask)?;
+    match seen {
+        Some(p) => Some(Spot::Flat(p)),
+        None => None,
     }
-    Ok(masks)
 }
 
-// The masks of the regions of the lines with sets of discs, by whether they are odd.
+fn shown(alloc: Global, marks: &[Marked2]) -> Result<Vec<Shown>, Memory>
+    ensures { IfOk result (λ v. v.items ≡ map shown2 marks.now) }
+{
+    let mut shown = Vec::new(alloc);
+    for mark in marks {
+        shown.push(Shown {
+            mask: mark.mask,
+            spot: spot(mark.seen),
+        })?;
+    }
+    Ok(shown)
+}
+
+// The masks of the regions of the lines with sets of discs, by whether they are odd, with the samples that were seen.
 fn divide(
     alloc: Global,
     profile: &Profile,
     table: &CurveTable,
     tile: &Box2,
-) -> Result<Masks, Memory>
+) -> Result<Parts, Memory>
     requires curves { AreCurves profile.now table.now }
     requires sized { AreSized table.now }
     requires few { AreFew table.now }
     requires near { IsNearBox tile.now }
-    ensures masks { IfOk result (λ m. AreMasks (leaves_of table.now) m.inside.items m.outside.items) }
-    ensures divided { IfOk result (λ m. AreDivided contours profile.now tile.now (curve_mask table.now) m.inside.items m.outside.items) }
+    ensures masks { IfOk result (λ m. AreMasks (leaves_of table.now) (masks_of m.inside.items) (masks_of m.outside.items)) }
+    ensures divided { IfOk result (λ m. AreDivided contours profile.now tile.now (curve_mask table.now) (masks_of m.inside.items) (masks_of m.outside.items)) }
+    ensures parts { IfOk result (λ m. AreParts contours profile.now tile.now (curve_mask table.now) m.inside.items m.outside.items) }
 {
     let lines = table.line_list(alloc)?;
     let discs = table.disc_list(alloc)?;
     let regions = cells::<Flat>(alloc, tile, lines.as_slice())?;
     let all = candidates(alloc, tile, lines.as_slice(), &regions, discs.as_slice())?;
     let split = classify2(alloc, profile, table, &regions, &all)?;
+    profile.law();
     odd_mask_law(profile, table);
-    Ok(Masks {
-        inside: masks(alloc, split.inside.as_slice())?,
-        outside: masks(alloc, split.outside.as_slice())?,
+    Ok(Parts {
+        inside: shown(alloc, split.inside.as_slice())?,
+        outside: shown(alloc, split.outside.as_slice())?,
     })
 }
 
@@ -124,20 +143,20 @@ pub fn contour_division(alloc: Global, profile: &Profile) -> Result<Division, Na
     outside_law2(profile);
     let table = curves(alloc, profile)?;
     let tile = box2(profile);
-    let masks = divide(alloc, profile, &table, &tile)?;
+    let parts = divide(alloc, profile, &table, &tile)?;
     Ok(Division {
         block: Leaf::Tile(tile),
         head: Head::Contour(tile),
         leaves: leaves(alloc, &table)?,
-        inside: masks.inside,
-        outside: masks.outside,
+        inside: parts.inside,
+        outside: parts.outside,
     })
 }
 
 /// The formula of closed contours: terms of the half-spaces that they induce. `TooManyLines` or `TooManyDiscs` where these
 /// are more than a conversion takes.
 pub fn contour_formula(alloc: Global, profile: &Profile) -> Result<Formula, NatFault>
-    ensures ok { IfOk result (λ f. (box : ABox) × (f.head ≡ Contour box) × IsFormula contours profile.now box (shape f.tree)) }
+    ensures ok { IfOk result (λ f. (box : ABox) × (f.head ≡ Contour box) × IsFormula contours profile.now box (shape f.tree) f.notes.items) }
     ensures err { IfErr result (IsLimitFault profile.now) }
 {
     let division = contour_division(alloc, profile)?;

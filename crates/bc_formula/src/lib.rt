@@ -1,5 +1,6 @@
 //! The formula of a boundary: its half-spaces divide its box, the masks of what is inside are covered by terms, and the tree
-//! of these terms means the boundary. `specs/Headline` says what a formula and its text mean, of any kind of boundary.
+//! of these terms means the boundary. Its notes name points that show that no part of it is idle. `specs/Headline` says what a
+//! formula and its text mean, of any kind of boundary.
 #![tactic(auto)]
 
 mod contours;

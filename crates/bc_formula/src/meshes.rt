@@ -1,51 +1,69 @@
-ghost use Rattle.std.specs.Prelude.{◌≡◌, ◌<◌, map, length, slice_get, Some, IfOk, IfErr};
+ghost use Rattle.std.specs.Prelude.{◌≡◌, ◌<◌, All, map, length, slice_get, Some, IfOk, IfErr};
+ghost use Rattle.bc_num.specs.Sizes.{IsLargePoint3};
 ghost use Rattle.bc_num.specs.declared.box3.Box3.{Box3 as ABox};
 ghost use Rattle.bc_natural.specs.Planes.{ArePlanes, ArePlanesSized, ArePlanesFew, IsPlaneLimitFault, IsNearBox3, plane_mask};
 ghost use Rattle.bc_text.specs.declared.note.Head.TheVariants.{Solid as SolidHead};
 ghost use Rattle.bc_tree.specs.Shape.{shape};
+ghost use Rattle.bc_formula.specs.Shown.{masks_of, AreParts};
+ghost use Rattle.bc_formula.specs.MeshDivision.{shown3};
 ghost use Rattle.bc_formula.specs.Divisions.{AreDivided, AreMasks, IsDivision};
 ghost use Rattle.bc_formula.specs.MeshGeometry.{meshes, normal_of, slabs_of};
 ghost use Rattle.bc_formula.specs.Headline.{IsFormula};
 
-use crate::terms::{Division, Formula, Masks, formula_of};
+use crate::terms::{Division, Formula, Parts, formula_of};
 use bc_cells::cells;
 use bc_classify::laws::odd_cell_law;
 use bc_classify::{Marked3, classify3};
 use bc_natural::{NatFault, PlaneTable, box3, planes};
-use bc_num::{Box3, List, Memory, V3};
+use bc_notes::Shown;
+use bc_num::{Box3, List, Memory, V3, reduce3};
 use bc_parity::laws::outside_law3;
 use bc_solid::Solid;
 use bc_space::{Plane3, Solid3};
-use bc_text::Head;
+use bc_text::{Head, Spot};
 use bc_tree::{Frame3, Leaf};
 use std::alloc::Global;
 
-fn masks(alloc: Global, marks: &[Marked3]) -> Result<Vec<u64>, Memory>
-    ensures { IfOk result (λ v. v.items ≡ map (λ m. m.mask) marks.now) }
+// The mask, and its point in lowest terms.
+fn shown_mark(mark: &Marked3) -> Shown
+    requires { IsLargePoint3 mark.now.inner }
+    ensures { result ≡ shown3 mark.now }
 {
-    let mut masks = Vec::new(alloc);
-    for mark in marks {
-        masks.push(mark.mask)?;
+    let lowest = reduce3(mark.inner);
+    Shown {
+        mask: mark.mask,
+        spot: Some(Spot::Solid(lowest)),
     }
-    Ok(masks)
 }
 
-// The masks of the cells of the planes, by whether they are odd.
-fn divide(alloc: Global, solid: &Solid, table: &PlaneTable, block: &Box3) -> Result<Masks, Memory>
+fn shown(alloc: Global, marks: &[Marked3]) -> Result<Vec<Shown>, Memory>
+    requires { All (λ m. IsLargePoint3 m.inner) marks.now }
+    ensures { IfOk result (λ v. v.items ≡ map shown3 marks.now) }
+{
+    let mut shown = Vec::new(alloc);
+    for mark in marks {
+        shown.push(shown_mark(mark))?;
+    }
+    Ok(shown)
+}
+
+// The masks of the cells of the planes, by whether they are odd, with their points.
+fn divide(alloc: Global, solid: &Solid, table: &PlaneTable, block: &Box3) -> Result<Parts, Memory>
     requires planes { ArePlanes solid.now table.now }
     requires sized { ArePlanesSized table.now }
     requires few { ArePlanesFew table.now }
     requires near { IsNearBox3 block.now }
-    ensures masks { IfOk result (λ m. AreMasks (slabs_of table.now) m.inside.items m.outside.items) }
-    ensures divided { IfOk result (λ m. AreDivided meshes solid.now block.now (plane_mask table.now) m.inside.items m.outside.items) }
+    ensures masks { IfOk result (λ m. AreMasks (slabs_of table.now) (masks_of m.inside.items) (masks_of m.outside.items)) }
+    ensures divided { IfOk result (λ m. AreDivided meshes solid.now block.now (plane_mask table.now) (masks_of m.inside.items) (masks_of m.outside.items)) }
+    ensures parts { IfOk result (λ m. AreParts meshes solid.now block.now (plane_mask table.now) m.inside.items m.outside.items) }
 {
     let planes = table.plane_list(alloc)?;
     let all = cells::<Solid3>(alloc, block, planes.as_slice())?;
     let split = classify3(alloc, solid, &all)?;
     odd_cell_law(solid, table);
-    Ok(Masks {
-        inside: masks(alloc, split.inside.as_slice())?,
-        outside: masks(alloc, split.outside.as_slice())?,
+    Ok(Parts {
+        inside: shown(alloc, split.inside.as_slice())?,
+        outside: shown(alloc, split.outside.as_slice())?,
     })
 }
 
@@ -91,20 +109,20 @@ pub fn mesh_division(alloc: Global, solid: &Solid) -> Result<Division, NatFault>
     outside_law3(solid);
     let table = planes(alloc, solid)?;
     let block = box3(solid);
-    let masks = divide(alloc, solid, &table, &block)?;
+    let parts = divide(alloc, solid, &table, &block)?;
     Ok(Division {
         block: Leaf::Block(block),
         head: Head::Solid(block),
         leaves: slabs(alloc, &table)?,
-        inside: masks.inside,
-        outside: masks.outside,
+        inside: parts.inside,
+        outside: parts.outside,
     })
 }
 
 /// The formula of a closed mesh: terms of the half-spaces of its planes. `TooManyPlanes` where these are more than a
 /// conversion takes.
 pub fn mesh_formula(alloc: Global, solid: &Solid) -> Result<Formula, NatFault>
-    ensures ok { IfOk result (λ f. (box : ABox) × (f.head ≡ SolidHead box) × IsFormula meshes solid.now box (shape f.tree)) }
+    ensures ok { IfOk result (λ f. (box : ABox) × (f.head ≡ SolidHead box) × IsFormula meshes solid.now box (shape f.tree) f.notes.items) }
     ensures err { IfErr result (IsPlaneLimitFault solid.now) }
 {
     let division = mesh_division(alloc, solid)?;

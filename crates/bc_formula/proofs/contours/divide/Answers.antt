@@ -9,12 +9,16 @@ use Rattle.bc_natural.specs.Curves.{lines_of}
 use Rattle.bc_cells.specs.Cells.{AreCells}
 use Rattle.bc_discs.specs.Candidates.{AreCandidates}
 use Rattle.bc_classify.specs.declared.split2.Marked2.{Marked2}
-use Rattle.bc_classify.proofs.Parities.{table_is}
+use Rattle.bc_classify.proofs.Parities.{table_is, proper_of}
 use Rattle.bc_natural.specs.Masks.{curve_mask}
 use Rattle.bc_formula.specs.ContourGeometry.{contours, leaves_of}
+use Rattle.bc_notes.specs.declared.shown.Shown.{Shown}
+use Rattle.bc_formula.specs.Shown.{masks_of, AreParts}
+use Rattle.bc_formula.specs.ContourDivision.{shown2}
 use Rattle.bc_formula.specs.Divisions.{AreMasks, AreDivided}
 use Rattle.bc_formula.proofs.ContourLeaves.{lines_sized}
 use Rattle.bc_formula.proofs.ContourMasks.{contour_masks, places}
+use Rattle.bc_formula.proofs.ContourNotes.{contour_parts, marks_masks}
 use Rattle.bc_formula.proofs.contours.divide.Goals as goal
 
 pub cells-requires-clause-sized : goal.cells-requires-clause-sized
@@ -28,12 +32,21 @@ classify2-requires-clause-places c = places c.args.tile.now c.as_slice-2.result.
 
 pub returns : goal.returns
 returns c =
+    let es = c.args.profile.now in
+    let b = c.args.tile.now in
+    let t = c.args.table.now in
+    let table = table_is es t c.requires.curves in
     let cells = subst (λ (ls : List Line2). AreCells IsSmallPoint line_side met2 2 (walls2 c.args.tile.now) ls c.in_ok-regions.regions) (c.as_slice.ensures ∙ c.in_ok-lines.ensures) c.in_ok-regions.ensures.cells in
     let some = subst (λ (ls : List Line2). AreCandidates c.args.tile.now ls c.as_slice-3.result.now c.in_ok-regions.regions c.in_ok-all.all) (c.as_slice-2.ensures ∙ c.in_ok-lines.ensures) c.in_ok-all.ensures in
     let all = subst (λ (ds : List Disc2). AreCandidates c.args.tile.now (lines_of c.args.table.now) ds c.in_ok-regions.regions c.in_ok-all.all) (c.as_slice-3.ensures ∙ c.in_ok-discs.ensures) some in
-    let d = contour_masks c.args.profile.now c.args.tile.now c.args.table.now c.in_ok-regions.regions c.in_ok-all.all c.in_ok-split.split (table_is c.args.profile.now c.args.table.now c.requires.curves) c.odd_mask_law.ensures c.requires.few cells all c.in_ok-split.ensures in
-    let ins : map (λ (m : Marked2). m.mask) c.in_ok-split.split.inside ≡ c.in_ok-masks.field-0.items = sym (c.in_ok-masks.ensures ∙ ap (map (λ (m : Marked2). m.mask)) c.as_slice-4.ensures) in
-    let outs : map (λ (m : Marked2). m.mask) c.in_ok-split.split.outside ≡ c.in_ok-masks-2.field-0.items = sym (c.in_ok-masks-2.ensures ∙ ap (map (λ (m : Marked2). m.mask)) c.as_slice-5.ensures) in
-    let P : List ℕ → List ℕ → Type 0 = λ xs ys. AreMasks (leaves_of c.args.table.now) xs ys × AreDivided contours c.args.profile.now c.args.tile.now (curve_mask c.args.table.now) xs ys in
-    let both = subst (λ (ys : List ℕ). P c.in_ok-masks.field-0.items ys) outs (subst (λ (xs : List ℕ). P xs (map (λ (m : Marked2). m.mask) c.in_ok-split.split.outside)) ins d) in
-    record { masks = both.0; divided = both.1 }
+    let d = contour_masks es b t c.in_ok-regions.regions c.in_ok-all.all c.in_ok-split.split table c.odd_mask_law.ensures c.requires.few cells all c.in_ok-split.ensures in
+    let parts = contour_parts es b t c.in_ok-regions.regions c.in_ok-all.all c.in_ok-split.split c.requires.curves (proper_of es c.law.ensures) c.odd_mask_law.ensures cells all c.in_ok-split.ensures in
+    let ins : map shown2 c.in_ok-split.split.inside ≡ c.in_ok-shown.field-0.items = sym (c.in_ok-shown.ensures ∙ ap (map shown2) c.as_slice-4.ensures) in
+    let outs : map shown2 c.in_ok-split.split.outside ≡ c.in_ok-shown-2.field-0.items = sym (c.in_ok-shown-2.ensures ∙ ap (map shown2) c.as_slice-5.ensures) in
+    let P : List Shown → List Shown → Type 0 = λ xs ys. AreMasks (leaves_of c.args.table.now) (masks_of xs) (masks_of ys) × AreDivided contours c.args.profile.now c.args.tile.now (curve_mask c.args.table.now) (masks_of xs) (masks_of ys) × AreParts contours c.args.profile.now c.args.tile.now (curve_mask c.args.table.now) xs ys in
+    let first : P (map shown2 c.in_ok-split.split.inside) (map shown2 c.in_ok-split.split.outside) = (all_masks c.in_ok-split.split.inside c.in_ok-split.split.outside (λ xs ys. AreMasks (leaves_of c.args.table.now) xs ys) d.0, all_masks c.in_ok-split.split.inside c.in_ok-split.split.outside (λ xs ys. AreDivided contours c.args.profile.now c.args.tile.now (curve_mask c.args.table.now) xs ys) d.1, parts) in
+    let both = subst (λ (ys : List Shown). P c.in_ok-shown.field-0.items ys) outs (subst (λ (xs : List Shown). P xs (map shown2 c.in_ok-split.split.outside)) ins first) in
+    record { masks = both.0; divided = both.1; parts = both.2 }
+  where
+    all_masks : (xs ys : List Marked2) (Q : List ℕ → List ℕ → Type 0) → Q (map (λ (m : Marked2). m.mask) xs) (map (λ (m : Marked2). m.mask) ys) → Q (masks_of (map shown2 xs)) (masks_of (map shown2 ys))
+    all_masks xs ys Q h = subst (λ (ns : List ℕ). Q (masks_of (map shown2 xs)) ns) (sym (marks_masks ys)) (subst (λ (ms : List ℕ). Q ms (map (λ (m : Marked2). m.mask) ys)) (sym (marks_masks xs)) h)
