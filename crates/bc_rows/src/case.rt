@@ -30,6 +30,19 @@ pub fn words_of(alloc: Global, text: &str) -> Result<Vec<String>, Fail> {
     Ok(words)
 }
 
+/// A text without the lines of its notes, whose points are the program's own choice.
+pub fn without_notes(alloc: Global, text: &[u8]) -> Result<String, Fail> {
+    let mut rest = String::new(alloc);
+    for line in str::from_utf8(text).map_err(|_| "text")?.lines() {
+        let words = line.trim_start();
+        if !words.starts_with("// own ") && !words.starts_with("// out ") {
+            rest.push_str(line)?;
+            rest.push_str("\n")?;
+        }
+    }
+    Ok(rest)
+}
+
 /// Runs the words on the input, through a source and sinks that give and take a few bytes at a time.
 pub fn run_on(alloc: Global, words: &str, input: &[u8]) -> Result<End, Fail> {
     let words = words_of(alloc, words)?;

@@ -1,6 +1,6 @@
 //! Runs on meshes: what is written, each refusal, and where points stand.
 
-use crate::case::{Case, run_on};
+use crate::case::{Case, run_on, without_notes};
 use std::test::Fail;
 
 const NO_SOLID_TEXT: &str = "// bcsg 1 solid\n// box -1 -1 -1 1 1 1\nunion() {\n}\n";
@@ -266,7 +266,8 @@ fn each_run_on_meshes_has_its_status_text_and_line(rt: HostRuntime) -> Result<()
     for case in &RUNS {
         let end = run_on(rt.alloc(), case.words, case.input.as_bytes())?;
         assert_eq!(rt; end.status.code(), case.code);
-        assert_eq!(rt; end.out.held(), case.out.as_bytes());
+        let out = without_notes(rt.alloc(), end.out.held())?;
+        assert_eq!(rt; out.as_str(), case.out);
         assert_eq!(rt; end.notes.held(), case.notes.as_bytes());
     }
     Ok(())

@@ -97,9 +97,9 @@ fn is_refused(alloc: Global, words: &str, input: &str, line: &str) -> Result<boo
 #[test]
 fn parts_are_converted(rt: HostRuntime) -> Result<(), Fail> {
     let alloc = rt.alloc();
-    let front = "// bcsg 1 contour\n// box -1 -1 41 21\nunion() {\n  difference() {\n";
+    let front = "// bcsg 1 contour\n// box -1 -1 41 21\nunion() {\n  // own ";
     assert!(rt; writes(alloc, "convert contour", PLATE, front)?);
-    let front = "// bcsg 1 solid\n// box -1 -1 -1 3 3 2\nunion() {\n  difference() {\n";
+    let front = "// bcsg 1 solid\n// box -1 -1 -1 3 3 2\nunion() {\n  // own ";
     assert!(rt; writes(alloc, "convert off", ELL, front)?);
     Ok(())
 }
@@ -111,13 +111,13 @@ fn boundaries_at_their_limits_are_converted(rt: HostRuntime) -> Result<(), Fail>
     assert!(rt; writes(alloc, "convert contour", lines(alloc, 24)?.as_str(), front)?);
     let mut both = lines(alloc, 24)?;
     both.push_str(circles(alloc, 8)?.as_str())?;
-    let front = "// bcsg 1 contour\n// box -9 -9 9 24\nunion() {\n  difference() {\n";
+    let front = "// bcsg 1 contour\n// box -9 -9 9 24\nunion() {\n  // own ";
     assert!(rt; writes(alloc, "convert contour", both.as_str(), front)?);
     let front = "// bcsg 1 contour\n// box -1 -1 2 1\nunion() {\n}\n";
     assert!(rt; writes(alloc, "convert contour", edges(alloc, 512)?.as_str(), front)?);
     let front = "// bcsg 1 solid\n// box -1 -1 -1 2 2 24\nunion() {\n}\n";
     assert!(rt; writes(alloc, "convert off", triangles(alloc, 24)?.as_str(), front)?);
-    let front = "// bcsg 1 solid\n// box -1 -1 -1 11 11 11\nunion() {\n  difference() {\n";
+    let front = "// bcsg 1 solid\n// box -1 -1 -1 11 11 11\nunion() {\n  // own ";
     assert!(rt; writes(alloc, "convert off", stairs(alloc, 10)?.as_str(), front)?);
     Ok(())
 }

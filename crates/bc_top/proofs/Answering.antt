@@ -1,5 +1,5 @@
 -- How the answer of a command follows from what was read and what was put, for any kind of boundary.
-use Rattle.std.proofs.Common.{◌≡◌, ◌≢◌, ◌<◌, ℕ, List, [], length, Option, None, Some, refl, sym, subst, inl, inr}
+use Rattle.std.proofs.Common.{◌≡◌, ◌≢◌, ◌<◌, ℕ, List, length, Option, None, Some, refl, sym, subst, inl, inr}
 use Rattle.std.specs.Io.KnownBytes.{Keeps}
 use Rattle.bc_tree.specs.Shape.{Shape}
 use Rattle.bc_text.specs.Layout.{layout}
@@ -13,6 +13,7 @@ use Rattle.bc_status.specs.declared.status.Status.TheVariants.{Done, Refused, Us
 use Rattle.bc_top.specs.Streams.{Reading, Writing, IsRead}
 use Rattle.bc_top.specs.Commands.{Question, Request}
 use Rattle.bc_status.specs.Status.{IfUsage}
+use Rattle.bc_text.specs.declared.note.Note.{Note}
 use Rattle.bc_formula.specs.Geometry.{Geometry}
 use Rattle.bc_top.specs.declared.boundary.TheConstants.{MOST_BYTES}
 use Rattle.bc_top.specs.Texts.{Grammar, Questions, IsTooLong}
@@ -64,11 +65,11 @@ module _ {B P X : Type 0} (k : Geometry B P X) (g : Grammar B) (settled : IsSett
   pub converts_stop : (s : Status) (r : Reading) (w : Writing) → Stops (IsConvertRefusal k g) r s → Keeps w.held w.grown → Fulfils (converts k g) s r w
   converts_stop s r w h e = fulfils_stop (converts k g) convert_honest s r w (λ f none. none) h e
 
-  pub converts_put : (s : Status) (r : Reading) (w : Writing) (bytes : List ℕ) (head : Head) (box : X) (t : Shape) → IsRead r bytes → head ≡ k.head box → IsFormulaOf k g bytes box t → IsPut (layout head [] t) s w → Fulfils (converts k g) s r w
-  converts_put s r w bytes head box t h is f p =
-      fulfils_put (converts k g) convert_honest s r w bytes (layout (k.head box) [] t) (λ f none. none) h
-      (record { boundary = f.boundary; of_bytes = f.of_bytes; described = described_by k f.boundary box t (layout (k.head box) [] t) f.formula refl })
-      (subst (λ (head : Head). IsPut (layout head [] t) s w) is p)
+  pub converts_put : (s : Status) (r : Reading) (w : Writing) (bytes : List ℕ) (head : Head) (box : X) (t : Shape) (notes : List Note) → IsRead r bytes → head ≡ k.head box → IsFormulaOf k g bytes box t notes → IsPut (layout head notes t) s w → Fulfils (converts k g) s r w
+  converts_put s r w bytes head box t notes h is f p =
+      fulfils_put (converts k g) convert_honest s r w bytes (layout (k.head box) notes t) (λ f none. none) h
+      (record { boundary = f.boundary; of_bytes = f.of_bytes; described = described_by k f.boundary box t notes (layout (k.head box) notes t) f.formula refl })
+      (subst (λ (head : Head). IsPut (layout head notes t) s w) is p)
 
   -- ---- side
 

@@ -101,7 +101,7 @@ contour_text : (bytes text : List ℕ) (es : List Element) → HasProfile bytes 
 contour_text bytes text es h c =
     let d = c.described in
     subst (λ (x : List Element). IsContourText x text) (one_profile bytes c.boundary es c.of_bytes h)
-    (record { tree = d.tree; spells = d.spells; only = d.only; box = d.box; box_of = d.box_of; more = d.more; head = d.head; means = d.means.free; outside_tree = d.means.outside_tree; outside_odd = d.means.outside_boundary })
+    (record { tree = d.tree; spells = d.spells; only = d.only; box = d.box; box_of = d.box_of; more = d.more; head = d.head; means = d.means.free; outside_tree = d.means.outside_tree; outside_odd = d.means.outside_boundary; notes = d.notes; layout = d.layout; normal = d.normal; says = d.says; needed = d.needed; taken_out = d.taken_out })
 
 pub contour_headline : (s : Status) (r : Reading) (w : Writing) → Fulfils (converts contours contour_texts) s r w → ContourHeadline s r w
 contour_headline s r w h = λ bytes old cs e f short read closed few.
@@ -127,7 +127,7 @@ few_planes mesh fs limits.Memory few o h some = absurd (some refl)
 mesh_text : (bytes text : List ℕ) (c : IsConverted meshes mesh_texts bytes text) → IsMeshText c.boundary text
 mesh_text bytes text c =
     let d = c.described in
-    record { tree = d.tree; spells = d.spells; only = d.only; box = d.box; box_of = d.box_of; more = d.more; head = d.head; means = d.means.free; outside_tree = d.means.outside_tree; outside_odd = d.means.outside_boundary }
+    record { tree = d.tree; spells = d.spells; only = d.only; box = d.box; box_of = d.box_of; more = d.more; head = d.head; means = d.means.free; outside_tree = d.means.outside_tree; outside_odd = d.means.outside_boundary; notes = d.notes; layout = d.layout; normal = d.normal; says = d.says; needed = d.needed; taken_out = d.taken_out }
 
 mesh_not_refused : (bytes : List ℕ) (f : Refusal) (mesh : Mesh) → length bytes ≤ MOST_BYTES → Off bytes mesh → IsClosedMesh (faces_of mesh) → AreFewPlanes mesh → IsConvertRefusal meshes mesh_texts bytes f → ⊥
 mesh_not_refused bytes f mesh short read closed few (inl fault) = no_text_fault bytes f mesh fault short read closed

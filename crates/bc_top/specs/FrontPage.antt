@@ -1,4 +1,5 @@
--- The headline in full, for contours and for meshes, over the definitions of the texts and of the boundaries alone. `run` has
+-- The headline in full, for contours and for meshes, over the definitions of the texts and of the boundaries alone; and that
+-- nothing in the text is idle, over the points of its notes. `run` has
 -- both as clauses. The source and the sink tell their bytes here, as those in memory do.
 use Rattle.std.specs.Prelude.{◌≡◌, ◌≤◌, ◌⊎◌, ◌↔◌, ℕ, List, [], ◌∷◌, ◌++◌, length, Some}
 use Rattle.std.specs.List.{All}
@@ -26,7 +27,13 @@ use Rattle.bc_tree.specs.Shape.{Shape}
 use Rattle.bc_tree.specs.Holds.{Holds2, Holds3}
 use Rattle.bc_tree.specs.Spells.{Spells}
 use Rattle.bc_text.specs.declared.note.Head.TheVariants.{Contour, Solid}
-use Rattle.bc_text.specs.Layout.{kind_line, box_line}
+use Rattle.bc_text.specs.declared.note.Note.{Note}
+use Rattle.bc_text.specs.Layout.{layout, kind_line, box_line}
+use Rattle.bc_formula.specs.ContourGeometry.{contours}
+use Rattle.bc_formula.specs.MeshGeometry.{meshes}
+use Rattle.bc_formula.specs.Headline.{IsNormal}
+use Rattle.bc_formula.specs.Notes.{AreNotes, AreNeeded}
+use Rattle.bc_formula.specs.TakenOut.{TakenOut}
 use Rattle.bc_status.specs.declared.status.Status.{Status}
 use Rattle.bc_status.specs.declared.status.Status.TheVariants.{Done, ReadFault, WriteFault, Memory}
 use Rattle.bc_top.specs.declared.boundary.TheConstants.{MOST_BYTES}
@@ -58,6 +65,14 @@ pub record IsContourText (es : List Element) (text : List ℕ) : Type 0 where
   -- outside the closed box neither
   pub outside_tree : (p : P2) → IsOutside box p → Holds2 tree p → ⊥
   pub outside_odd : (p : P2) → IsOutside box p → Odd es p → ⊥
+  -- the text is the layout of this tree with these notes, and so has no other; the tree is a union of products of half-spaces
+  pub notes : List Note
+  pub layout : text ≡ layout (Contour box) notes tree
+  pub normal : IsNormal contours es box tree
+  -- each note says what it is to say of its product or literal, and none of these is idle
+  pub says : AreNotes contours es box normal.leaves normal.products notes
+  pub needed : AreNeeded contours es box (length normal.leaves) normal.products
+  pub taken_out : TakenOut contours es box normal.leaves normal.products
 
 -- every contour file of the grammar that is closed and within the limits is converted
 abbrev pub ContourHeadline : Status → Reading → Writing → Type 0
@@ -93,6 +108,14 @@ pub record IsMeshText (fs : List Facet) (text : List ℕ) : Type 0 where
   -- outside the closed box neither
   pub outside_tree : (p : P3) → IsOutside3 box p → Holds3 tree p → ⊥
   pub outside_odd : (p : P3) → IsOutside3 box p → Odd3 fs p → ⊥
+  -- the text is the layout of this tree with these notes, and so has no other; the tree is a union of products of half-spaces
+  pub notes : List Note
+  pub layout : text ≡ layout (Solid box) notes tree
+  pub normal : IsNormal meshes fs box tree
+  -- each note says what it is to say of its product or literal, and none of these is idle
+  pub says : AreNotes meshes fs box normal.leaves normal.products notes
+  pub needed : AreNeeded meshes fs box (length normal.leaves) normal.products
+  pub taken_out : TakenOut meshes fs box normal.leaves normal.products
 
 -- every OFF file of the grammar whose mesh is closed and within the limit is converted
 abbrev pub MeshHeadline : Status → Reading → Writing → Type 0

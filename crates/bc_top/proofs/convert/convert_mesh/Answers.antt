@@ -9,7 +9,7 @@ use Rattle.bc_top.proofs.convert.convert_mesh.Goals as goal
 pub returns-in-Ok : goal.returns-in-Ok
 returns-in-Ok g c =
     let h = c.in-Ok.ensures.ok in
-    converts_put meshes mesh_texts meshes_settled c.put_formula.result _ _ h.0 c.in-Ok.formula.head h.2 (shape c.in-Ok.formula.tree) h.1 h.3 h.4 c.put_formula.ensures
+    converts_put meshes mesh_texts meshes_settled c.put_formula.result _ _ h.0 c.in-Ok.formula.head h.2 (shape c.in-Ok.formula.tree) c.in-Ok.formula.notes.items h.1 h.3 h.4 c.put_formula.ensures
 
 pub returns-in-Err : goal.returns-in-Err
 returns-in-Err g c = converts_stop meshes mesh_texts meshes_settled c.in-Err.status _ _ c.in-Err.ensures.err (keeps_same _)
