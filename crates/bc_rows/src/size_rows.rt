@@ -22,7 +22,8 @@ fn lines(alloc: Global, n: u32) -> Result<String, Fail> {
 }
 
 // Circles around one centre: n discs, one in the other.
-fn circles(alloc: Global, n: u32) -> Result<String, Fail> {
+fn circles(alloc: Global, n: u8) -> Result<String, Fail> {
+    let n = u32::from(n);
     let mut text = String::new(alloc);
     for k in 1..n + 1 {
         text.push_str(format!(in alloc; "G00 X{k} Y0\nG03 I-{k}\n")?.as_str())?;
@@ -31,7 +32,8 @@ fn circles(alloc: Global, n: u32) -> Result<String, Fail> {
 }
 
 // Triangles of two sides each, one above the other: n planes, and nothing inside.
-fn triangles(alloc: Global, n: u32) -> Result<String, Fail> {
+fn triangles(alloc: Global, n: u8) -> Result<String, Fail> {
+    let n = u32::from(n);
     let mut text = format!(in alloc; "OFF {} {} 0\n", 3 * n, 2 * n)?;
     for k in 0..n {
         text.push_str(format!(in alloc; "0 0 {k}\n1 0 {k}\n0 1 {k}\n")?.as_str())?;
@@ -53,7 +55,8 @@ fn edges(alloc: Global, n: u32) -> Result<String, Fail> {
 }
 
 // A flight of n stairs, 10 deep: 2 n + 4 planes.
-fn stairs(alloc: Global, n: u32) -> Result<String, Fail> {
+fn stairs(alloc: Global, n: u8) -> Result<String, Fail> {
+    let n = u32::from(n);
     let m = 2 * n + 2;
     let mut text = format!(in alloc; "OFF {} {} 0\n", 2 * m, m + 2)?;
     for y in [0, 10] {
