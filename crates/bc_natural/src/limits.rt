@@ -1,8 +1,8 @@
 /// How many distinct lines contours may have.
-pub const MOST_LINES: usize = 24;
+pub const MOST_LINES: usize = 40;
 
 /// How many distinct discs contours may have.
-pub const MOST_DISCS: usize = 8;
+pub const MOST_DISCS: usize = 10;
 
 /// How many distinct planes a mesh may have.
-pub const MOST_PLANES: usize = 24;
+pub const MOST_PLANES: usize = 40;

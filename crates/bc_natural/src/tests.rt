@@ -154,8 +154,8 @@ fn lines_to_their_limit(rt: HostRuntime) -> Result<(), Fail> {
     for (count, want, around) in [
         (0u8, Ok(0), (-1, -1, 1, 1)),
         (1, Ok(1), (-1, -1, 2, 1)),
-        (24, Ok(24), (-1, -1, 2, 24)),
-        (25, Err(NatFault::TooManyLines { n: 25 }), (-1, -1, 2, 25)),
+        (40, Ok(40), (-1, -1, 2, 40)),
+        (41, Err(NatFault::TooManyLines { n: 41 }), (-1, -1, 2, 41)),
     ] {
         let s = figures(rt.alloc(), count, false)?;
         let found = curves(rt.alloc(), &s).map(|table| table.lines());
@@ -168,8 +168,12 @@ fn lines_to_their_limit(rt: HostRuntime) -> Result<(), Fail> {
 #[test]
 fn discs_to_their_limit(rt: HostRuntime) -> Result<(), Fail> {
     for (count, want, around) in [
-        (8u8, Ok((0, 8)), (-9, -9, 9, 9)),
-        (9, Err(NatFault::TooManyDiscs { n: 9 }), (-10, -10, 10, 10)),
+        (10u8, Ok((0, 10)), (-11, -11, 11, 11)),
+        (
+            11,
+            Err(NatFault::TooManyDiscs { n: 11 }),
+            (-12, -12, 12, 12),
+        ),
     ] {
         let s = figures(rt.alloc(), count, true)?;
         let found = curves(rt.alloc(), &s).map(|table| (table.lines(), table.discs()));
