@@ -6,7 +6,7 @@ use Rattle.std.proofs.lemmas.Bool.{cases_Bool, eqb-true, eq-eqb}
 use Rattle.std.proofs.lemmas.List.{length-map, length-append, map-append, append-nil}
 use Rattle.bc_cover.specs.Masks.{places_below}
 use Rattle.bc_cover.specs.Covers.{Literal, positive, negative}
-use Rattle.bc_tree.specs.Cuts.{Product}
+use Rattle.bc_tree.specs.declared.product.Product.{Product}
 use Rattle.bc_text.specs.declared.note.Note.{Note}
 use Rattle.bc_text.specs.Numbered.{From, PlacesBelow}
 use Rattle.bc_notes.specs.declared.shown.Shown.{Shown}

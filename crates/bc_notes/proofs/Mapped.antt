@@ -4,7 +4,8 @@ use Rattle.std.specs.Prelude.{slice_get, option_map}
 use Rattle.std.proofs.lemmas.Option.{slice_get-map}
 use Rattle.bc_cover.specs.declared.term.Term.{Term}
 use Rattle.bc_cover.specs.Covers.{Holds}
-use Rattle.bc_tree.specs.Cuts.{Product, product_of}
+use Rattle.bc_tree.specs.declared.product.Product.{Product}
+use Rattle.bc_tree.specs.Cuts.{product_of}
 use Rattle.bc_notes.specs.Products.{products_of, HoldsMask}
 use Rattle.bc_notes.specs.Chosen.{IsAlone}
 

@@ -11,7 +11,8 @@ use Rattle.bc_cover.specs.Masks.{places_below}
 use Rattle.bc_cover.specs.Covers.{Literal, positive, negative}
 use Rattle.bc_tree.specs.declared.tree.Leaf.{Leaf}
 use Rattle.bc_tree.specs.Shape.{Shape, leaf, meet, shapes_of}
-use Rattle.bc_tree.specs.Cuts.{Product, picked, product_shape, products_shape}
+use Rattle.bc_tree.specs.declared.product.Product.{Product}
+use Rattle.bc_tree.specs.Cuts.{picked, product_shape, products_shape}
 use Rattle.bc_notes.specs.Nodes.{nodes, each_nodes, Node, numbered_from, is_half_space, is_noted, noted_nodes}
 use Rattle.bc_notes.specs.Products.{literals_of}
 use Rattle.bc_notes.specs.Noted.{noted_literals, noted_product, noted_products, noted, half_space_of, node_of}

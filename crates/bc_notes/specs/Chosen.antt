@@ -1,8 +1,8 @@
 -- How the points of notes are chosen, by masks alone: for a product one of an inside mask that this product alone holds, for a
 -- literal one of an outside mask that its product holds once the literal is taken out.
-use Rattle.std.specs.Prelude.{◌≡◌, ◌↔◌, ℕ, List, ◌++◌, Option, None, Some, slice_get, All, Any}
+use Rattle.std.specs.Prelude.{◌≡◌, ◌↔◌, ℕ, List, ◌++◌, Option, None, Some, is_some, slice_get, filter, All, Any}
 use Rattle.std.specs.List.{AllZip}
-use Rattle.bc_tree.specs.Cuts.{Product}
+use Rattle.bc_tree.specs.declared.product.Product.{Product}
 use Rattle.bc_text.specs.declared.note.Spot.{Spot}
 use Rattle.bc_text.specs.declared.note.Mark.{Mark}
 use Rattle.bc_text.specs.declared.note.Mark.TheVariants.{Own, OwnUndecided, Out, OutUndecided}
@@ -14,6 +14,10 @@ use Rattle.bc_notes.specs.Noted.{Subject, the_product, the_literal, Noted}
 -- the product at place i holds the mask, and no other product does
 abbrev pub IsAlone : List Product → ℕ → ℕ → Type 0
 IsAlone products i mask = (j : ℕ) (p : Product) → slice_get products j ≡ Some p → (HoldsMask p mask ↔ (j ≡ i))
+
+-- those of the masks that have a point
+abbrev pub seen_of : List Shown → List Shown
+seen_of list = filter (λ m. is_some m.spot) list
 
 -- the point, where its mask will do; none where it won't, or there is no point
 abbrev pub IsSpotWhere : Type 0 → Option Spot → Option Spot → Type 0

@@ -2,7 +2,8 @@
 use Rattle.std.specs.Prelude.{◌≡◌, true, false, List, map, length}
 use Rattle.std.specs.List.{All}
 use Rattle.bc_tree.specs.declared.tree.Leaf.{Leaf}
-use Rattle.bc_tree.specs.Cuts.{Product, products_shape}
+use Rattle.bc_tree.specs.declared.product.Product.{Product}
+use Rattle.bc_tree.specs.Cuts.{products_shape}
 use Rattle.bc_notes.specs.Nodes.{is_half_space, noted_nodes}
 use Rattle.bc_notes.specs.Noted.{noted, node_of}
 

@@ -3,7 +3,8 @@ use Rattle.std.specs.Prelude.{ℕ, ◌+◌, List, [], ◌∷◌, ◌++◌, lengt
 use Rattle.bc_cover.specs.Covers.{Literal, positive, negative}
 use Rattle.bc_tree.specs.declared.tree.Leaf.{Leaf}
 use Rattle.bc_tree.specs.Shape.{Shape, leaf}
-use Rattle.bc_tree.specs.Cuts.{Product, product_shape}
+use Rattle.bc_tree.specs.declared.product.Product.{Product}
+use Rattle.bc_tree.specs.Cuts.{product_shape}
 use Rattle.bc_notes.specs.Nodes.{Node}
 use Rattle.bc_notes.specs.Products.{literals_of}
 

@@ -3,7 +3,8 @@ use Rattle.std.specs.Prelude.{ℕ, List, ◌++◌, map, IsTrue}
 use Rattle.bc_cover.specs.declared.term.Term.{Term}
 use Rattle.bc_cover.specs.Masks.{without_bit, places_below, admits}
 use Rattle.bc_cover.specs.Covers.{Literal, positive, negative}
-use Rattle.bc_tree.specs.Cuts.{Product, product_of}
+use Rattle.bc_tree.specs.declared.product.Product.{Product}
+use Rattle.bc_tree.specs.Cuts.{product_of}
 
 -- the products that these terms stand for
 abbrev pub products_of : List Term → List Product

@@ -1,17 +1,39 @@
 //! Points for terms and for literals, each a point of a mask that tells.
-ghost use Rattle.std.specs.Prelude.{◌≡◌, ◌↔◌, ◌<◌, ℕ, IsTrue, IsSome, IfSome, None, Some, Any, length, slice_get, false};
+ghost use Rattle.std.specs.Prelude.{◌≡◌, ◌↔◌, ◌<◌, ℕ, IsTrue, IsSome, IfSome, IfOk, None, Some, Any, length, slice_get, false};
 ghost use Rattle.bc_cover.specs.Covers.{Holds};
 ghost use Rattle.bc_cover.specs.Masks.{admits};
 ghost use Rattle.bc_notes.specs.Products.{products_of};
-ghost use Rattle.bc_notes.specs.Chosen.{IsAlone, IsSpotWhere, IsChosen};
+ghost use Rattle.bc_notes.specs.Chosen.{IsAlone, IsSpotWhere, IsChosen, seen_of};
 
 use crate::Shown;
 use crate::words::is_admitted;
 use bc_cover::Term;
+use bc_num::Memory;
 use bc_text::Spot;
+use std::alloc::Global;
 
 // Of so many masks at most the points are compared.
 const MOST_COMPARED: usize = 1024;
+
+/// Masks with their points, and those of them that have one.
+#[derive(Clone, Copy)]
+pub struct Masks<'a> {
+    pub all: &'a [Shown],
+    pub seen: &'a [Shown],
+}
+
+/// The masks that have a point. `Memory` where there is no room.
+pub fn seen_masks(alloc: Global, masks: &[Shown]) -> Result<Vec<Shown>, Memory>
+    ensures { IfOk result (λ v. v.items ≡ seen_of masks.now) }
+{
+    let mut seen = Vec::new(alloc);
+    for m in masks {
+        if m.spot.is_some() {
+            seen.push(*m)?;
+        }
+    }
+    Ok(seen)
+}
 
 fn denominator(spot: &Spot) -> i128 {
     match spot {
@@ -88,15 +110,16 @@ fn named_own(inside: &[Shown], named: usize, terms: &[Term], i: usize) -> Option
 /// A point of a mask that the term at place `i` holds and no other, where one of the masks is such and has a point: that of
 /// the named mask; but of at most 1,024 masks one with the least denominator. Only where the named mask has no point does it
 /// look through a longer list.
-pub fn choose_own(inside: &[Shown], named: usize, terms: &[Term], i: usize) -> Option<Spot>
+pub fn choose_own(inside: &Masks<'_>, named: usize, terms: &[Term], i: usize) -> Option<Spot>
     requires within { i < length terms.now }
-    ensures { IsChosen (IsAlone (products_of terms.now) i) inside.now result }
+    requires seen { inside.now.seen.now ≡ seen_of inside.now.all.now }
+    ensures { IsChosen (IsAlone (products_of terms.now) i) inside.now.all.now result }
 {
-    let mut best = named_own(inside, named, terms, i);
-    if inside.len() > MOST_COMPARED && best.is_some() {
+    let mut best = named_own(inside.all, named, terms, i);
+    if inside.all.len() > MOST_COMPARED && best.is_some() {
         return best;
     }
-    for m in inside {
+    for m in inside.seen {
         if is_plainer(&m.spot, &best) {
             best = first_of(own_at(m, terms, i), best);
         }
@@ -129,14 +152,15 @@ fn named_out(outside: &[Shown], named: usize, pos: u64, neg: u64) -> Option<Spot
 /// A point of a mask with all bits of `pos` and none of `neg`, where one of the masks is such and has a point: that of the
 /// named mask; but of at most 1,024 masks one with the least denominator. Only where the named mask has no point does it look
 /// through a longer list.
-pub fn choose_out(outside: &[Shown], named: usize, pos: u64, neg: u64) -> Option<Spot>
-    ensures { IsChosen (λ mask. IsTrue (admits pos neg mask)) outside.now result }
+pub fn choose_out(outside: &Masks<'_>, named: usize, pos: u64, neg: u64) -> Option<Spot>
+    requires seen { outside.now.seen.now ≡ seen_of outside.now.all.now }
+    ensures { IsChosen (λ mask. IsTrue (admits pos neg mask)) outside.now.all.now result }
 {
-    let mut best = named_out(outside, named, pos, neg);
-    if outside.len() > MOST_COMPARED && best.is_some() {
+    let mut best = named_out(outside.all, named, pos, neg);
+    if outside.all.len() > MOST_COMPARED && best.is_some() {
         return best;
     }
-    for m in outside {
+    for m in outside.seen {
         if is_plainer(&m.spot, &best) {
             best = first_of(out_at(m, pos, neg), best);
         }

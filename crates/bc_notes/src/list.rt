@@ -7,10 +7,10 @@ ghost use Rattle.bc_tree.specs.Cuts.{product_of};
 ghost use Rattle.bc_text.specs.Numbered.{Ascend, EndEarly};
 ghost use Rattle.bc_notes.specs.Products.{products_of, literals_of};
 ghost use Rattle.bc_notes.specs.Noted.{noted_literals, noted_product, noted};
-ghost use Rattle.bc_notes.specs.Chosen.{own_mark, out_mark, IsNoteOf, Adds};
+ghost use Rattle.bc_notes.specs.Chosen.{own_mark, out_mark, seen_of, IsNoteOf, Adds};
 
 use crate::Shown;
-use crate::choose::{choose_out, choose_own};
+use crate::choose::{Masks, choose_out, choose_own, seen_masks};
 use crate::words::{has_bit, take_out};
 use bc_cover::Term;
 use bc_num::Memory;
@@ -48,13 +48,14 @@ fn named_block(t: &Term, k: usize) -> usize {
 fn add_positive(
     notes: &mut Vec<Note>,
     first: u128,
-    outside: &[Shown],
+    outside: &Masks<'_>,
     t: &Term,
     n: u32,
 ) -> Result<usize, Memory>
     requires few { n ≤ 64 }
     requires early { first < 2 ^ 99 }
-    ensures added { (inside : _) (products : _) → OnOk result (Adds (IsNoteOf inside outside.now products) (noted_literals first (product_of t.now) (map positive (places_below n t.now.pos))) notes.old.items notes.new.items) }
+    requires seen { outside.now.seen.now ≡ seen_of outside.now.all.now }
+    ensures added { (inside : _) (products : _) → OnOk result (Adds (IsNoteOf inside outside.now.all.now products) (noted_literals first (product_of t.now) (map positive (places_below n t.now.pos))) notes.old.items notes.new.items) }
     ensures count { IfOk result (λ k. k ≡ length (places_below n t.now.pos)) }
 {
     let mut k = 0;
@@ -76,14 +77,15 @@ fn add_negative(
     notes: &mut Vec<Note>,
     first: u128,
     before: usize,
-    outside: &[Shown],
+    outside: &Masks<'_>,
     t: &Term,
     n: u32,
 ) -> Result<usize, Memory>
     requires few { n ≤ 64 }
     requires behind { before ≤ 64 }
     requires early { first < 2 ^ 99 }
-    ensures added { (inside : _) (products : _) → OnOk result (Adds (IsNoteOf inside outside.now products) (noted_literals first (product_of t.now) (map negative (places_below n t.now.neg))) notes.old.items notes.new.items) }
+    requires seen { outside.now.seen.now ≡ seen_of outside.now.all.now }
+    ensures added { (inside : _) (products : _) → OnOk result (Adds (IsNoteOf inside outside.now.all.now products) (noted_literals first (product_of t.now) (map negative (places_below n t.now.neg))) notes.old.items notes.new.items) }
     ensures count { IfOk result (λ k. k ≡ length (places_below n t.now.neg)) }
 {
     let mut k = 0;
@@ -110,8 +112,8 @@ fn add_negative(
 fn add_term(
     notes: &mut Vec<Note>,
     place: u128,
-    inside: &[Shown],
-    outside: &[Shown],
+    inside: &Masks<'_>,
+    outside: &Masks<'_>,
     terms: &[Term],
     i: usize,
     n: u32,
@@ -119,7 +121,9 @@ fn add_term(
     requires few { n ≤ 64 }
     requires within { i < length terms.now }
     requires early { place < 2 ^ 98 }
-    ensures added { (t : _) → slice_get terms.now i ≡ Some t → OnOk result (Adds (IsNoteOf inside.now outside.now (products_of terms.now)) (noted_product n place i (product_of t)) notes.old.items notes.new.items) }
+    requires inside_seen { inside.now.seen.now ≡ seen_of inside.now.all.now }
+    requires outside_seen { outside.now.seen.now ≡ seen_of outside.now.all.now }
+    ensures added { (t : _) → slice_get terms.now i ≡ Some t → OnOk result (Adds (IsNoteOf inside.now.all.now outside.now.all.now (products_of terms.now)) (noted_product n place i (product_of t)) notes.old.items notes.new.items) }
     ensures next { (t : _) → slice_get terms.now i ≡ Some t → IfOk result (λ m. m ≡ place + 3 + length (literals_of n (product_of t))) }
     ensures soon { IfOk result (λ m. m ≤ place + 131) }
 {
@@ -149,10 +153,21 @@ pub fn notes_of(
     ensures ascend { IfOk result (λ v. Ascend v.items) }
     ensures early { IfOk result (λ v. EndEarly v.items) }
 {
+    // Most masks of regions with arcs have no point, and where none will do, each that has one is looked at.
+    let seen_inside = seen_masks(alloc, inside)?;
+    let seen_outside = seen_masks(alloc, outside)?;
+    let ins = Masks {
+        all: inside,
+        seen: &seen_inside,
+    };
+    let outs = Masks {
+        all: outside,
+        seen: &seen_outside,
+    };
     let mut notes = Vec::new(alloc);
     let mut place = 1;
     for i in 0..terms.len() {
-        place = add_term(&mut notes, place, inside, outside, terms, i, n)?;
+        place = add_term(&mut notes, place, &ins, &outs, terms, i, n)?;
     }
     Ok(notes)
 }

@@ -5,4 +5,4 @@ use Rattle.bc_notes.proofs.Choosing.{IsBest}
 use Rattle.bc_notes.proofs.choose.choose_out.Given as goal
 
 abbrev pub invariant-loop-m : goal.invariant-loop-m
-invariant-loop-m l = IsBest (λ mask. IsTrue (admits l.pos l.neg mask)) l.outside (take l.m-index l.outside) l.best
+invariant-loop-m l = IsBest (λ mask. IsTrue (admits l.pos l.neg mask)) l.outside.all.now (take l.m-index l.outside.seen.now) l.best

@@ -5,4 +5,4 @@ use Rattle.bc_notes.proofs.Choosing.{IsBest}
 use Rattle.bc_notes.proofs.choose.choose_own.Given as goal
 
 abbrev pub invariant-loop-m : goal.invariant-loop-m
-invariant-loop-m l = IsBest (IsAlone (products_of l.terms) l.i) l.inside (take l.m-index l.inside) l.best
+invariant-loop-m l = IsBest (IsAlone (products_of l.terms) l.i) l.inside.all.now (take l.m-index l.inside.seen.now) l.best

@@ -37,16 +37,16 @@ loop-i-preserved c =
           rw (w.k-is, w.notes-is) record {
             count = omega (arith, old, more);
             added = λ inside products.
-                subst (λ es. Adds (IsNoteOf inside c.args.outside.now products) es c.args.notes.now.items w.push.new.self.items) (sym (literals_push c.args.first (product_of c.args.t.now) negative word i one))
-                (adds_one (IsNoteOf inside c.args.outside.now products) (noted_literals c.args.first (product_of c.args.t.now) (map negative (places_below i word))) e x c.args.notes.now.items c.loop-i.notes.items w.push.new.self.items
+                subst (λ es. Adds (IsNoteOf inside c.args.outside.now.all.now products) es c.args.notes.now.items w.push.new.self.items) (sym (literals_push c.args.first (product_of c.args.t.now) negative word i one))
+                (adds_one (IsNoteOf inside c.args.outside.now.all.now products) (noted_literals c.args.first (product_of c.args.t.now) (map negative (places_below i word))) e x c.args.notes.now.items c.loop-i.notes.items w.push.new.self.items
                 (c.loop-i.invariant.added inside products) w.in_ok-push.ensures.items
-                (record { at = ap (λ k. c.args.first + k) old; says = (w.choose_out-spot.result, subst (λ p. IsChosen (λ mask. IsTrue (admits c.args.t.now.pos p mask)) c.args.outside.now w.choose_out-spot.result) w.take_out.ensures w.choose_out-spot.ensures, w.mark_out.ensures) }));
+                (record { at = ap (λ k. c.args.first + k) old; says = (w.choose_out-spot.result, subst (λ p. IsChosen (λ mask. IsTrue (admits c.args.t.now.pos p mask)) c.args.outside.now.all.now w.choose_out-spot.result) w.take_out.ensures w.choose_out-spot.ensures, w.mark_out.ensures) }));
           }
       | else-has_bit w ↦
           let same = bits_no word i (λ h. clash (c.has_bit.ensures.1 h) w.if-has_bit.false) in
           rw (w.k-is, w.notes-is) record {
             count = old ∙ ap length (sym same);
-            added = λ inside products. subst (λ ps. Adds (IsNoteOf inside c.args.outside.now products) (noted_literals c.args.first (product_of c.args.t.now) (map negative ps)) c.args.notes.now.items c.loop-i.notes.items) (sym same) (c.loop-i.invariant.added inside products);
+            added = λ inside products. subst (λ ps. Adds (IsNoteOf inside c.args.outside.now.all.now products) (noted_literals c.args.first (product_of c.args.t.now) (map negative ps)) c.args.notes.now.items c.loop-i.notes.items) (sym same) (c.loop-i.invariant.added inside products);
           }
     ]
   where

@@ -5,7 +5,8 @@ use Rattle.std.proofs.Math.Seq.{take-suc}
 use Rattle.std.proofs.lemmas.List.{take_all, length-take-le, length-map}
 use Rattle.std.proofs.lemmas.Option.{slice_get-get_or, slice_get_within, get_or_from_slice_get}
 use Rattle.bc_cover.specs.declared.term.Term.{Term}
-use Rattle.bc_tree.specs.Cuts.{Product, product_of}
+use Rattle.bc_tree.specs.declared.product.Product.{Product}
+use Rattle.bc_tree.specs.Cuts.{product_of}
 use Rattle.bc_text.specs.declared.note.Note.{Note}
 use Rattle.bc_notes.specs.Products.{literals_of, products_of}
 use Rattle.bc_notes.specs.Noted.{Noted, noted, noted_product, noted_products}
