@@ -1,4 +1,7 @@
 pub mod OneTree
+pub mod AxisTests
+pub mod ShortWords
+mod Axis
 mod Truths
 mod Frames
 mod Decides
@@ -6,7 +9,7 @@ mod Same
 mod Near
 pub mod Half
 mod Stands
-mod LeafKinds
+pub mod LeafKinds
 mod Coprime
 pub mod Covers
 pub mod CoverHolds

@@ -1,6 +1,6 @@
 -- A token sequence is that of one tree at most: what begins a node says which node it is, and the numbers of a leaf are
--- read back from their digits.
-use Rattle.std.proofs.Common.{◌≡◌, ◌<◌, ◌^◌, ℕ, ℤ, pos, negsuc, List, [], ◌∷◌, ◌++◌, codes, drop, refl, sym, ap, ◌∙◌, append_assoc, arith, Some, lit<, ◌≤◌, true, false, ◌||◌, nat_eq, subst}
+-- read back from their digits. The short form of an axis leaf is told from a block or tile by its sides.
+use Rattle.std.proofs.Common.{◌≡◌, ◌<◌, ◌^◌, ℕ, ℤ, pos, negsuc, List, [], ◌∷◌, ◌++◌, codes, drop, refl, sym, ap, ◌∙◌, append_assoc, arith, Some, lit<, ◌≤◌, true, false, ◌||◌, nat_eq, subst, Bool, if◌then◌else◌, ◌⊎◌, inl, inr}
 use lib.IntN.{nat_abs}
 use lib.Signed.{mag}
 use Rattle.std.specs.Prelude.{◌-ℤ◌}
@@ -20,22 +20,25 @@ use Rattle.bc_tree.specs.declared.tree.Leaf.{Leaf}
 use Rattle.bc_tree.specs.declared.tree.Leaf.TheVariants.{Slab, Strip, Disc, Block, Tile}
 use Rattle.bc_tree.specs.Shape.{Shape, leaf, union, meet, cut, Shapes, none, child, AllLeaves, EachLeaf}
 use Rattle.bc_tree.specs.Leaves.{IsBetween, IsFrame2, IsFrame3, IsDisc, IsBlock, IsTile, IsLeaf}
-use Rattle.bc_tree.specs.Words.{words, words_all}
-use Rattle.bc_tree.specs.Spells.{SpellsOneTree}
+use Rattle.std.specs.Ordering.{int_eq}
+use Rattle.std.specs.Prelude.{neg_ℤ}
+use Rattle.bc_tree.specs.Axis.{IsUnit, IsAxis, IsAxis2, IsAxis3, corner_at, side_at}
+use Rattle.bc_tree.specs.Words.{long_words, short_words, IsLeafWords, IsWords, AreWords}
+use Rattle.bc_tree.specs.Spells.{SpellsOneTree, WordsOfOneTree}
 
 -- ---- parts of a token sequence
 
 -- its first token
-abbrev first : List (List ℕ) → List ℕ
+abbrev pub first : List (List ℕ) → List ℕ
 first [] = []
 first (t ∷ ts) = t
 
 -- the byte that the sequence begins with
-abbrev byte_of : List ℕ → ℕ
+abbrev pub byte_of : List ℕ → ℕ
 byte_of [] = 0
 byte_of (b ∷ bs) = b
 
-abbrev begins : List (List ℕ) → ℕ
+abbrev pub begins : List (List ℕ) → ℕ
 begins ts = byte_of (first ts)
 
 -- the token behind n others
@@ -118,63 +121,216 @@ same_frame2 f g h k x y a b =
     ap (λ (o : V2). frame2 o f.u) eo ∙ ap (frame2 g.o) eu
 
 -- two numbers that are not the same
-differ : {A : Type 0} (m n : ℕ) → m < n → m ≡ n → A
+pub differ : {A : Type 0} (m n : ℕ) → m < n → m ≡ n → A
 differ m n h e = absurd (omega arith)
 
 -- the second byte of the token behind n others
 abbrev second : ℕ → List (List ℕ) → ℕ
 second n ts = byte_of (drop 1 (nth n ts))
 
+-- a leaf's tokens with its `;`
+abbrev semi : List (List ℕ) → List (List ℕ)
+semi ws = ws ++ codes ";" ∷ []
+
 -- multmatrix and translate are known by their first bytes, the name behind a leaf's translate by its first one or two
-same_leaf : (l m : Leaf) (r r' : List (List ℕ)) → IsLeaf l → IsLeaf m → words (leaf l) ++ r ≡ words (leaf m) ++ r' → Same (leaf l) (leaf m) r r'
-same_leaf (Slab f) (Slab g) r r' h k e = record {
+same_long : (l m : Leaf) (r r' : List (List ℕ)) → IsLeaf l → IsLeaf m → semi (long_words l) ++ r ≡ semi (long_words m) ++ r' → Same (leaf l) (leaf m) r r'
+same_long (Slab f) (Slab g) r r' h k e = record {
   shape = ap (λ (f : Frame3). leaf (Slab f)) (same_frame3 f g h k (ap (nth 10) e) (ap (nth 20) e) (ap (nth 30) e) (ap (nth 8) e) (ap (nth 18) e) (ap (nth 28) e));
   rest = ap (drop 65) e;
 }
-same_leaf (Strip f) (Strip g) r r' h k e = record {
+same_long (Strip f) (Strip g) r r' h k e = record {
   shape = ap (λ (f : Frame2). leaf (Strip f)) (same_frame2 f g h k (ap (nth 10) e) (ap (nth 20) e) (ap (nth 4) e) (ap (nth 14) e));
   rest = ap (drop 63) e;
 }
-same_leaf (Disc d) (Disc e) r r' f g h = record {
+same_long (Disc d) (Disc e) r r' f g h = record {
   shape = ap (λ (d : Disc2). leaf (Disc d)) (same_disc d e f g (ap (nth 3) h) (ap (nth 5) h) (ap (nth 16) h));
   rest = ap (drop 20) h;
 }
-same_leaf (Block b) (Block c) r r' f g h = record {
+same_long (Block b) (Block c) r r' f g h = record {
   shape = ap (λ (b : Box3). leaf (Block b)) (same_block b c f g (ap (nth 3) h) (ap (nth 5) h) (ap (nth 7) h) (ap (nth 13) h) (ap (nth 15) h) (ap (nth 17) h));
   rest = ap (drop 21) h;
 }
-same_leaf (Tile b) (Tile c) r r' f g h = record {
+same_long (Tile b) (Tile c) r r' f g h = record {
   shape = ap (λ (b : Box2). leaf (Tile b)) (same_tile b c f g (ap (nth 3) h) (ap (nth 5) h) (ap (nth 13) h) (ap (nth 15) h));
   rest = ap (drop 19) h;
 }
-same_leaf (Slab f) (Strip g) r r' p q h = differ 99 115 (lit< tt) (ap (λ ts. begins (drop 54 ts)) h)
-same_leaf (Slab f) (Disc e) r r' p q h = differ 109 116 (lit< tt) (ap begins h)
-same_leaf (Slab f) (Block c) r r' p q h = differ 109 116 (lit< tt) (ap begins h)
-same_leaf (Slab f) (Tile c) r r' p q h = differ 109 116 (lit< tt) (ap begins h)
-same_leaf (Strip f) (Slab g) r r' p q h = differ 99 115 (lit< tt) (sym (ap (λ ts. begins (drop 54 ts)) h))
-same_leaf (Strip f) (Disc e) r r' p q h = differ 109 116 (lit< tt) (ap begins h)
-same_leaf (Strip f) (Block c) r r' p q h = differ 109 116 (lit< tt) (ap begins h)
-same_leaf (Strip f) (Tile c) r r' p q h = differ 109 116 (lit< tt) (ap begins h)
-same_leaf (Disc d) (Slab g) r r' p q h = differ 109 116 (lit< tt) (sym (ap begins h))
-same_leaf (Disc d) (Strip g) r r' p q h = differ 109 116 (lit< tt) (sym (ap begins h))
-same_leaf (Disc d) (Block c) r r' p q h = differ 105 117 (lit< tt) (ap (second 10) h)
-same_leaf (Disc d) (Tile c) r r' p q h = differ 99 115 (lit< tt) (ap (λ ts. begins (drop 10 ts)) h)
-same_leaf (Block b) (Slab g) r r' p q h = differ 109 116 (lit< tt) (sym (ap begins h))
-same_leaf (Block b) (Strip g) r r' p q h = differ 109 116 (lit< tt) (sym (ap begins h))
-same_leaf (Block b) (Disc e) r r' p q h = differ 105 117 (lit< tt) (sym (ap (second 10) h))
-same_leaf (Block b) (Tile c) r r' p q h = differ 99 115 (lit< tt) (ap (λ ts. begins (drop 10 ts)) h)
-same_leaf (Tile b) (Slab g) r r' p q h = differ 109 116 (lit< tt) (sym (ap begins h))
-same_leaf (Tile b) (Strip g) r r' p q h = differ 109 116 (lit< tt) (sym (ap begins h))
-same_leaf (Tile b) (Disc e) r r' p q h = differ 99 115 (lit< tt) (sym (ap (λ ts. begins (drop 10 ts)) h))
-same_leaf (Tile b) (Block c) r r' p q h = differ 99 115 (lit< tt) (sym (ap (λ ts. begins (drop 10 ts)) h))
+same_long (Slab f) (Strip g) r r' p q h = differ 99 115 (lit< tt) (ap (λ ts. begins (drop 54 ts)) h)
+same_long (Slab f) (Disc e) r r' p q h = differ 109 116 (lit< tt) (ap begins h)
+same_long (Slab f) (Block c) r r' p q h = differ 109 116 (lit< tt) (ap begins h)
+same_long (Slab f) (Tile c) r r' p q h = differ 109 116 (lit< tt) (ap begins h)
+same_long (Strip f) (Slab g) r r' p q h = differ 99 115 (lit< tt) (sym (ap (λ ts. begins (drop 54 ts)) h))
+same_long (Strip f) (Disc e) r r' p q h = differ 109 116 (lit< tt) (ap begins h)
+same_long (Strip f) (Block c) r r' p q h = differ 109 116 (lit< tt) (ap begins h)
+same_long (Strip f) (Tile c) r r' p q h = differ 109 116 (lit< tt) (ap begins h)
+same_long (Disc d) (Slab g) r r' p q h = differ 109 116 (lit< tt) (sym (ap begins h))
+same_long (Disc d) (Strip g) r r' p q h = differ 109 116 (lit< tt) (sym (ap begins h))
+same_long (Disc d) (Block c) r r' p q h = differ 105 117 (lit< tt) (ap (second 10) h)
+same_long (Disc d) (Tile c) r r' p q h = differ 99 115 (lit< tt) (ap (λ ts. begins (drop 10 ts)) h)
+same_long (Block b) (Slab g) r r' p q h = differ 109 116 (lit< tt) (sym (ap begins h))
+same_long (Block b) (Strip g) r r' p q h = differ 109 116 (lit< tt) (sym (ap begins h))
+same_long (Block b) (Disc e) r r' p q h = differ 105 117 (lit< tt) (sym (ap (second 10) h))
+same_long (Block b) (Tile c) r r' p q h = differ 99 115 (lit< tt) (ap (λ ts. begins (drop 10 ts)) h)
+same_long (Tile b) (Slab g) r r' p q h = differ 109 116 (lit< tt) (sym (ap begins h))
+same_long (Tile b) (Strip g) r r' p q h = differ 109 116 (lit< tt) (sym (ap begins h))
+same_long (Tile b) (Disc e) r r' p q h = differ 99 115 (lit< tt) (sym (ap (λ ts. begins (drop 10 ts)) h))
+same_long (Tile b) (Block c) r r' p q h = differ 99 115 (lit< tt) (sym (ap (λ ts. begins (drop 10 ts)) h))
+
+-- ---- short forms
+
+-- of size 1, or 0
+abbrev pub IsSign : ℤ → Type 0
+IsSign n = IsUnit n ⊎ (n ≡ pos 0)
+
+pub axis_signs3 : (n : V3) → IsAxis3 n → IsSign n.x × IsSign n.y × IsSign n.z
+axis_signs3 n (inl h) = (inl h.0, inr h.1, inr h.2)
+axis_signs3 n (inr (inl h)) = (inr h.1, inl h.0, inr h.2)
+axis_signs3 n (inr (inr h)) = (inr h.1, inr h.2, inl h.0)
+
+sign_neg : (z : ℤ) → IsSign z → IsSign (neg_ℤ z)
+sign_neg z (inl (inl e)) = inl (inr (ap neg_ℤ e))
+sign_neg z (inl (inr e)) = inl (inl (ap neg_ℤ e))
+sign_neg z (inr e) = inr (ap neg_ℤ e)
+
+pub axis_signs2 : (u : V2) → IsAxis2 u → IsSign (neg_ℤ u.y) × IsSign u.x
+axis_signs2 u (inl h) = (sign_neg u.y (inr h.1), inl h.0)
+axis_signs2 u (inr h) = (sign_neg u.y (inl h.0), inr h.1)
+
+corner_by : (o : ℤ) → IsWithin 1023 o → (c : Bool) → IsWithin 9215 (if c then o else o -ℤ pos 8192)
+corner_by o h true = let m = h.within in record { within = omega (arith, ints) }
+corner_by o h false = let m = h.within in record { within = omega (arith, ints) }
+
+pub corner_near : (o n : ℤ) → IsWithin 1023 o → IsWithin 9215 (corner_at o n)
+corner_near o n h = corner_by o h (int_eq n (pos 1))
+
+side_by : (c : Bool) → IsWithin 16384 (if c then pos 16384 else pos 8192)
+side_by true = record { within = omega arith }
+side_by false = record { within = omega arith }
+
+pub side_near : (n : ℤ) → IsWithin 16384 (side_at n)
+side_near n = side_by (int_eq n (pos 0))
+
+pub long_by : {A : Type 0} (c : Bool) (z : ℤ) → (if c then pos 16384 else pos 8192) ≡ z → IsBetween (pos 1) z (pos 8191) → A
+long_by true z e h = let m = h.most in absurd (omega (arith, ints))
+long_by false z e h = let m = h.most in absurd (omega (arith, ints))
+
+-- no side of a block or tile is one of a short form
+longer : {A : Type 0} (n z : ℤ) → IsBetween (pos 1) z (pos 8191) → signed_decimal (side_at n) ≡ signed_decimal z → A
+longer n z h e = long_by (int_eq n (pos 0)) z (from_digits 16384 (side_at n) z (lit< tt) (side_near n) (record { within = let m = (within_high z 8191 h).within in omega arith }) e) h
+
+apart : {A : Type 0} (o p : ℤ) → IsWithin 1023 o → IsWithin 1023 p → o ≡ p -ℤ pos 8192 → A
+apart o p h k e = let m = h.within in let n = k.within in absurd (omega (arith, ints))
+
+back : (o p : ℤ) → o -ℤ pos 8192 ≡ p -ℤ pos 8192 → o ≡ p
+back o p e = omega (arith, ints)
+
+sides_differ : {A : Type 0} → pos 8192 ≡ pos 16384 → A
+sides_differ e = absurd (omega (arith, ints))
+
+-- the corner and the side along an axis say the origin and the normal's component there
+pub same_axis : (o n p m : ℤ) → IsSign n → IsSign m → IsWithin 1023 o → IsWithin 1023 p → corner_at o n ≡ corner_at p m → side_at n ≡ side_at m → (o ≡ p) × (n ≡ m)
+same_axis o n p m (inl (inl e)) (inl (inl f)) h k c s = (sym (ap (corner_at o) e) ∙ c ∙ ap (corner_at p) f, e ∙ sym f)
+same_axis o n p m (inl (inl e)) (inl (inr f)) h k c s = apart o p h k (sym (ap (corner_at o) e) ∙ c ∙ ap (corner_at p) f)
+same_axis o n p m (inl (inl e)) (inr f) h k c s = sides_differ (sym (ap side_at e) ∙ s ∙ ap side_at f)
+same_axis o n p m (inl (inr e)) (inl (inl f)) h k c s = apart p o k h (sym (sym (ap (corner_at o) e) ∙ c ∙ ap (corner_at p) f))
+same_axis o n p m (inl (inr e)) (inl (inr f)) h k c s = (back o p (sym (ap (corner_at o) e) ∙ c ∙ ap (corner_at p) f), e ∙ sym f)
+same_axis o n p m (inl (inr e)) (inr f) h k c s = sides_differ (sym (ap side_at e) ∙ s ∙ ap side_at f)
+same_axis o n p m (inr e) (inl (inl f)) h k c s = sides_differ (sym (sym (ap side_at e) ∙ s ∙ ap side_at f))
+same_axis o n p m (inr e) (inl (inr f)) h k c s = sides_differ (sym (sym (ap side_at e) ∙ s ∙ ap side_at f))
+same_axis o n p m (inr e) (inr f) h k c s = (back o p (sym (ap (corner_at o) e) ∙ c ∙ ap (corner_at p) f), e ∙ sym f)
+
+axis_digits : (o n p m : ℤ) → IsSign n → IsSign m → IsWithin 1023 o → IsWithin 1023 p → signed_decimal (corner_at o n) ≡ signed_decimal (corner_at p m)
+    → signed_decimal (side_at n) ≡ signed_decimal (side_at m) → (o ≡ p) × (n ≡ m)
+axis_digits o n p m i j h k c s =
+    same_axis o n p m i j h k (from_digits 9215 (corner_at o n) (corner_at p m) (lit< tt) (corner_near o n h) (corner_near p m k) c)
+    (from_digits 16384 (side_at n) (side_at m) (lit< tt) (side_near n) (side_near m) s)
+
+opposites : (a b : ℤ) → neg_ℤ a ≡ neg_ℤ b → a ≡ b
+opposites a b e = omega (arith, ints)
+
+-- two short forms
+same_short : (l m : Leaf) (r r' : List (List ℕ)) → IsLeaf l → IsLeaf m → IsAxis l → IsAxis m → semi (short_words l) ++ r ≡ semi (short_words m) ++ r' → Same (leaf l) (leaf m) r r'
+unfolding frame3 frame2
+same_short (Slab f) (Slab g) r r' h k a b e =
+    let i = axis_signs3 f.n a in
+    let j = axis_signs3 g.n b in
+    let x = axis_digits f.o.x f.n.x g.o.x g.n.x i.0 j.0 h.origin_x k.origin_x (ap (nth 3) e) (ap (nth 13) e) in
+    let y = axis_digits f.o.y f.n.y g.o.y g.n.y i.1 j.1 h.origin_y k.origin_y (ap (nth 5) e) (ap (nth 15) e) in
+    let z = axis_digits f.o.z f.n.z g.o.z g.n.z i.2 j.2 h.origin_z k.origin_z (ap (nth 7) e) (ap (nth 17) e) in
+    let same : f ≡ g = ap (λ (o : V3). frame3 o f.n) (v3_same f.o g.o x.0 y.0 z.0) ∙ ap (frame3 g.o) (v3_same f.n g.n x.1 y.1 z.1) in
+    record { shape = ap (λ (f : Frame3). leaf (Slab f)) same; rest = ap (drop 21) e }
+same_short (Strip f) (Strip g) r r' h k a b e =
+    let i = axis_signs2 f.u a in
+    let j = axis_signs2 g.u b in
+    let x = axis_digits f.o.x (neg_ℤ f.u.y) g.o.x (neg_ℤ g.u.y) i.0 j.0 h.origin_x k.origin_x (ap (nth 3) e) (ap (nth 13) e) in
+    let y = axis_digits f.o.y f.u.x g.o.y g.u.x i.1 j.1 h.origin_y k.origin_y (ap (nth 5) e) (ap (nth 15) e) in
+    let same : f ≡ g = ap (λ (o : V2). frame2 o f.u) (v2_same f.o g.o x.0 y.0) ∙ ap (frame2 g.o) (v2_same f.u g.u y.1 (opposites f.u.y g.u.y x.1)) in
+    record { shape = ap (λ (f : Frame2). leaf (Strip f)) same; rest = ap (drop 19) e }
+same_short (Slab f) (Strip g) r r' h k a b e = differ 99 115 (lit< tt) (ap (λ ts. begins (drop 10 ts)) e)
+same_short (Strip f) (Slab g) r r' h k a b e = differ 99 115 (lit< tt) (sym (ap (λ ts. begins (drop 10 ts)) e))
+same_short (Slab f) (Disc d) r r' h k a b e = absurd b
+same_short (Slab f) (Block c) r r' h k a b e = absurd b
+same_short (Slab f) (Tile c) r r' h k a b e = absurd b
+same_short (Strip f) (Disc d) r r' h k a b e = absurd b
+same_short (Strip f) (Block c) r r' h k a b e = absurd b
+same_short (Strip f) (Tile c) r r' h k a b e = absurd b
+same_short (Disc d) m r r' h k a b e = absurd a
+same_short (Block c) m r r' h k a b e = absurd a
+same_short (Tile c) m r r' h k a b e = absurd a
+
+-- a short form is no long one
+short_long : {A : Type 0} (l m : Leaf) (r r' : List (List ℕ)) → IsLeaf m → IsAxis l → semi (short_words l) ++ r ≡ semi (long_words m) ++ r' → A
+short_long (Slab f) (Slab g) r r' k a e = differ 109 116 (lit< tt) (sym (ap begins e))
+short_long (Slab f) (Strip g) r r' k a e = differ 109 116 (lit< tt) (sym (ap begins e))
+short_long (Slab f) (Disc d) r r' k a e = differ 105 117 (lit< tt) (sym (ap (second 10) e))
+short_long (Slab f) (Block b) r r' k a e = longer f.n.x (b.x1 -ℤ b.x0) k.side_x (ap (nth 13) e)
+short_long (Slab f) (Tile b) r r' k a e = differ 99 115 (lit< tt) (ap (λ ts. begins (drop 10 ts)) e)
+short_long (Strip f) (Slab g) r r' k a e = differ 109 116 (lit< tt) (sym (ap begins e))
+short_long (Strip f) (Strip g) r r' k a e = differ 109 116 (lit< tt) (sym (ap begins e))
+short_long (Strip f) (Disc d) r r' k a e = differ 99 115 (lit< tt) (sym (ap (λ ts. begins (drop 10 ts)) e))
+short_long (Strip f) (Block b) r r' k a e = differ 99 115 (lit< tt) (sym (ap (λ ts. begins (drop 10 ts)) e))
+short_long (Strip f) (Tile b) r r' k a e = longer (neg_ℤ f.u.y) (b.x1 -ℤ b.x0) k.side_x (ap (nth 13) e)
+short_long (Disc d) m r r' k a e = absurd a
+short_long (Block b) m r r' k a e = absurd a
+short_long (Tile b) m r r' k a e = absurd a
+
+-- ---- both forms
+
+moved : {w v a b : List (List ℕ)} (r r' : List (List ℕ)) → w ≡ a → v ≡ b → w ++ r ≡ v ++ r' → a ++ r ≡ b ++ r'
+moved r r' e f h = sym (ap (λ x. x ++ r) e) ∙ h ∙ ap (λ x. x ++ r') f
+
+moved_leaf : {w v a b : List (List ℕ)} (r r' : List (List ℕ)) → w ≡ a → v ≡ b → semi w ++ r ≡ semi v ++ r' → semi a ++ r ≡ semi b ++ r'
+moved_leaf r r' e f h = sym (ap (λ x. semi x ++ r) e) ∙ h ∙ ap (λ x. semi x ++ r') f
+
+same_leaf : (l m : Leaf) (w v r r' : List (List ℕ)) → IsLeaf l → IsLeaf m → IsLeafWords l w → IsLeafWords m v → semi w ++ r ≡ semi v ++ r' → Same (leaf l) (leaf m) r r'
+same_leaf l m w v r r' h k (inl e) (inl f) q = same_long l m r r' h k (moved_leaf r r' e f q)
+same_leaf l m w v r r' h k (inr a) (inl f) q = short_long l m r r' k a.0 (moved_leaf r r' a.1 f q)
+same_leaf l m w v r r' h k (inl e) (inr b) q = short_long m l r' r h b.0 (sym (moved_leaf r r' e b.1 q))
+same_leaf l m w v r r' h k (inr a) (inr b) q = same_short l m r r' h k a.0 b.0 (moved_leaf r r' a.1 b.1 q)
 
 -- a leaf begins with multmatrix or translate
-other_leaf : {A : Type 0} (n : ℕ) (l : Leaf) (r : List (List ℕ)) → (nat_eq n 109 || nat_eq n 116) ≡ false → n ≡ begins (words (leaf l) ++ r) → A
-other_leaf n (Slab f) r h e = let k : true ≡ false = subst (λ m. (nat_eq m 109 || nat_eq m 116) ≡ false) e h in cc
-other_leaf n (Strip f) r h e = let k : true ≡ false = subst (λ m. (nat_eq m 109 || nat_eq m 116) ≡ false) e h in cc
-other_leaf n (Disc d) r h e = let k : true ≡ false = subst (λ m. (nat_eq m 109 || nat_eq m 116) ≡ false) e h in cc
-other_leaf n (Block b) r h e = let k : true ≡ false = subst (λ m. (nat_eq m 109 || nat_eq m 116) ≡ false) e h in cc
-other_leaf n (Tile b) r h e = let k : true ≡ false = subst (λ m. (nat_eq m 109 || nat_eq m 116) ≡ false) e h in cc
+abbrev is_first : ℕ → Bool
+is_first n = nat_eq n 109 || nat_eq n 116
+
+long_first : (l : Leaf) (r : List (List ℕ)) → is_first (begins (semi (long_words l) ++ r)) ≡ true
+long_first (Slab f) r = refl
+long_first (Strip f) r = refl
+long_first (Disc d) r = refl
+long_first (Block b) r = refl
+long_first (Tile b) r = refl
+
+short_first : (l : Leaf) (r : List (List ℕ)) → is_first (begins (semi (short_words l) ++ r)) ≡ true
+short_first (Slab f) r = refl
+short_first (Strip f) r = refl
+short_first (Disc d) r = refl
+short_first (Block b) r = refl
+short_first (Tile b) r = refl
+
+leaf_first : (l : Leaf) (w r : List (List ℕ)) → IsLeafWords l w → is_first (begins (semi w ++ r)) ≡ true
+leaf_first l w r (inl e) = ap (λ x. is_first (begins (semi x ++ r))) e ∙ long_first l r
+leaf_first l w r (inr a) = ap (λ x. is_first (begins (semi x ++ r))) a.1 ∙ short_first l r
+
+other_leaf : {A : Type 0} (n : ℕ) (l : Leaf) (w r : List (List ℕ)) → IsLeafWords l w → is_first n ≡ false → n ≡ begins (semi w ++ r) → A
+other_leaf n l w r p h e = let k : true ≡ false = sym (leaf_first l w r p) ∙ sym (ap is_first e) ∙ h in cc
 
 -- ---- nodes
 
@@ -186,11 +342,11 @@ between : (a b r r' : List (List ℕ)) → (a ++ codes "}" ∷ []) ++ r ≡ (b +
 between a b r r' e = sym (inner a r) ∙ e ∙ inner b r'
 
 -- no node begins with a closing bracket
-not_closed : {A : Type 0} (s : Shape) (x r : List (List ℕ)) → codes "}" ∷ r ≡ words s ++ x → A
-not_closed (leaf l) x r e = other_leaf 125 l x refl (ap begins e)
-not_closed (union kids) x r e = differ 117 125 (lit< tt) (sym (ap begins e))
-not_closed (meet kids) x r e = differ 105 125 (lit< tt) (sym (ap begins e))
-not_closed (cut s kids) x r e = differ 100 125 (lit< tt) (sym (ap begins e))
+not_closed : {A : Type 0} (s : Shape) (w x r : List (List ℕ)) → IsWords s w → codes "}" ∷ r ≡ w ++ x → A
+not_closed (leaf l) w x r p e = other_leaf 125 l p.0 x p.1 refl (ap begins (e ∙ ap (λ y. y ++ x) p.2))
+not_closed (union kids) w x r p e = differ 117 125 (lit< tt) (sym (ap begins (e ∙ ap (λ y. y ++ x) p.2)))
+not_closed (meet kids) w x r p e = differ 105 125 (lit< tt) (sym (ap begins (e ∙ ap (λ y. y ++ x) p.2)))
+not_closed (cut s kids) w x r p e = differ 100 125 (lit< tt) (sym (ap begins (e ∙ ap (λ y. y ++ x) p.4)))
 
 pub record SameAll (ss ts : Shapes) (r r' : List (List ℕ)) : Type 0 where
   pub shapes : ss ≡ ts
@@ -212,36 +368,43 @@ child_same : (s t : Shape) (ss ts : Shapes) (r r' : List (List ℕ)) → s ≡ t
 child_same s t ss ts r r' e f = record { shapes = ap (λ (x : Shape). child x ss) e ∙ ap (child t) f.shapes; rest = f.rest }
 
 mutual
-  pub one : (s t : Shape) (r r' : List (List ℕ)) → AllLeaves IsLeaf s → AllLeaves IsLeaf t → words s ++ r ≡ words t ++ r' → Same s t r r'
-  one (leaf l) (leaf m) r r' f g e = same_leaf l m r r' f g e
-  one (union ks) (union ls) r r' f g e = union_same ks ls r r' (all ks ls r r' f g (between (words_all ks) (words_all ls) r r' (ap (drop 4) e)))
-  one (meet ks) (meet ls) r r' f g e = meet_same ks ls r r' (all ks ls r r' f g (between (words_all ks) (words_all ls) r r' (ap (drop 4) e)))
-  one (cut s ks) (cut t ls) r r' f g e =
-      let h : (words s ++ words_all ks) ++ (codes "}" ∷ r) ≡ (words t ++ words_all ls) ++ (codes "}" ∷ r') = between (words s ++ words_all ks) (words t ++ words_all ls) r r' (ap (drop 4) e) in
-      let k : Same s t (words_all ks ++ (codes "}" ∷ r)) (words_all ls ++ (codes "}" ∷ r')) =
-      one s t (words_all ks ++ (codes "}" ∷ r)) (words_all ls ++ (codes "}" ∷ r')) f.0 g.0 (sym (regroup (words s) (words_all ks) (codes "}" ∷ r)) ∙ h ∙ regroup (words t) (words_all ls) (codes "}" ∷ r')) in
-      cut_same s t ks ls r r' k.shape (all ks ls r r' f.1 g.1 k.rest)
-  one (leaf l) (union ls) r r' f g e = other_leaf 117 l r refl (sym (ap begins e))
-  one (leaf l) (meet ls) r r' f g e = other_leaf 105 l r refl (sym (ap begins e))
-  one (leaf l) (cut t ls) r r' f g e = other_leaf 100 l r refl (sym (ap begins e))
-  one (union ks) (leaf m) r r' f g e = other_leaf 117 m r' refl (ap begins e)
-  one (union ks) (meet ls) r r' f g e = differ 105 117 (lit< tt) (sym (ap begins e))
-  one (union ks) (cut t ls) r r' f g e = differ 100 117 (lit< tt) (sym (ap begins e))
-  one (meet ks) (leaf m) r r' f g e = other_leaf 105 m r' refl (ap begins e)
-  one (meet ks) (union ls) r r' f g e = differ 105 117 (lit< tt) (ap begins e)
-  one (meet ks) (cut t ls) r r' f g e = differ 100 105 (lit< tt) (sym (ap begins e))
-  one (cut s ks) (leaf m) r r' f g e = other_leaf 100 m r' refl (ap begins e)
-  one (cut s ks) (union ls) r r' f g e = differ 100 117 (lit< tt) (ap begins e)
-  one (cut s ks) (meet ls) r r' f g e = differ 100 105 (lit< tt) (ap begins e)
+  pub one : (s t : Shape) (w v r r' : List (List ℕ)) → AllLeaves IsLeaf s → AllLeaves IsLeaf t → IsWords s w → IsWords t v → w ++ r ≡ v ++ r' → Same s t r r'
+  one (leaf l) (leaf m) w v r r' f g p q e = same_leaf l m p.0 q.0 r r' f g p.1 q.1 (moved _ _ p.2 q.2 e)
+  one (union ks) (union ls) w v r r' f g p q e =
+      union_same ks ls r r' (all ks ls p.0 q.0 r r' f g p.1 q.1 (between p.0 q.0 r r' (ap (drop 4) (moved _ _ p.2 q.2 e))))
+  one (meet ks) (meet ls) w v r r' f g p q e =
+      meet_same ks ls r r' (all ks ls p.0 q.0 r r' f g p.1 q.1 (between p.0 q.0 r r' (ap (drop 4) (moved _ _ p.2 q.2 e))))
+  one (cut s ks) (cut t ls) w v r r' f g p q e =
+      let h : (p.0 ++ p.1) ++ (codes "}" ∷ r) ≡ (q.0 ++ q.1) ++ (codes "}" ∷ r') = between (p.0 ++ p.1) (q.0 ++ q.1) r r' (ap (drop 4) (moved _ _ p.4 q.4 e)) in
+      let k : Same s t (p.1 ++ (codes "}" ∷ r)) (q.1 ++ (codes "}" ∷ r')) =
+      one s t p.0 q.0 (p.1 ++ (codes "}" ∷ r)) (q.1 ++ (codes "}" ∷ r')) f.0 g.0 p.2 q.2 (sym (regroup p.0 p.1 (codes "}" ∷ r)) ∙ h ∙ regroup q.0 q.1 (codes "}" ∷ r')) in
+      cut_same s t ks ls r r' k.shape (all ks ls p.1 q.1 r r' f.1 g.1 p.3 q.3 k.rest)
+  one (leaf l) (union ls) w v r r' f g p q e = other_leaf 117 l p.0 r p.1 refl (sym (ap begins (moved _ _ p.2 q.2 e)))
+  one (leaf l) (meet ls) w v r r' f g p q e = other_leaf 105 l p.0 r p.1 refl (sym (ap begins (moved _ _ p.2 q.2 e)))
+  one (leaf l) (cut t ls) w v r r' f g p q e = other_leaf 100 l p.0 r p.1 refl (sym (ap begins (moved _ _ p.2 q.4 e)))
+  one (union ks) (leaf m) w v r r' f g p q e = other_leaf 117 m q.0 r' q.1 refl (ap begins (moved _ _ p.2 q.2 e))
+  one (union ks) (meet ls) w v r r' f g p q e = differ 105 117 (lit< tt) (sym (ap begins (moved _ _ p.2 q.2 e)))
+  one (union ks) (cut t ls) w v r r' f g p q e = differ 100 117 (lit< tt) (sym (ap begins (moved _ _ p.2 q.4 e)))
+  one (meet ks) (leaf m) w v r r' f g p q e = other_leaf 105 m q.0 r' q.1 refl (ap begins (moved _ _ p.2 q.2 e))
+  one (meet ks) (union ls) w v r r' f g p q e = differ 105 117 (lit< tt) (ap begins (moved _ _ p.2 q.2 e))
+  one (meet ks) (cut t ls) w v r r' f g p q e = differ 100 105 (lit< tt) (sym (ap begins (moved _ _ p.2 q.4 e)))
+  one (cut s ks) (leaf m) w v r r' f g p q e = other_leaf 100 m q.0 r' q.1 refl (ap begins (moved _ _ p.4 q.2 e))
+  one (cut s ks) (union ls) w v r r' f g p q e = differ 100 117 (lit< tt) (ap begins (moved _ _ p.4 q.2 e))
+  one (cut s ks) (meet ls) w v r r' f g p q e = differ 100 105 (lit< tt) (ap begins (moved _ _ p.4 q.2 e))
 
-  all : (ss ts : Shapes) (r r' : List (List ℕ)) → EachLeaf IsLeaf ss → EachLeaf IsLeaf ts → words_all ss ++ (codes "}" ∷ r) ≡ words_all ts ++ (codes "}" ∷ r') → SameAll ss ts r r'
-  all none none r r' f g e = record { shapes = refl; rest = ap (drop 1) e }
-  all none (child t ts) r r' f g e = not_closed t (words_all ts ++ (codes "}" ∷ r')) r (e ∙ regroup (words t) (words_all ts) (codes "}" ∷ r'))
-  all (child s ss) none r r' f g e = not_closed s (words_all ss ++ (codes "}" ∷ r)) r' (sym e ∙ regroup (words s) (words_all ss) (codes "}" ∷ r))
-  all (child s ss) (child t ts) r r' f g e =
-      let k : Same s t (words_all ss ++ (codes "}" ∷ r)) (words_all ts ++ (codes "}" ∷ r')) =
-      one s t (words_all ss ++ (codes "}" ∷ r)) (words_all ts ++ (codes "}" ∷ r')) f.0 g.0 (sym (regroup (words s) (words_all ss) (codes "}" ∷ r)) ∙ e ∙ regroup (words t) (words_all ts) (codes "}" ∷ r')) in
-      child_same s t ss ts r r' k.shape (all ss ts r r' f.1 g.1 k.rest)
+  all : (ss ts : Shapes) (w v r r' : List (List ℕ)) → EachLeaf IsLeaf ss → EachLeaf IsLeaf ts → AreWords ss w → AreWords ts v → w ++ (codes "}" ∷ r) ≡ v ++ (codes "}" ∷ r') → SameAll ss ts r r'
+  all none none w v r r' f g p q e = record { shapes = refl; rest = ap (drop 1) (moved _ _ p q e) }
+  all none (child t ts) w v r r' f g p q e = not_closed t q.0 (q.1 ++ (codes "}" ∷ r')) r q.2 (moved _ _ p q.4 e ∙ regroup q.0 q.1 (codes "}" ∷ r'))
+  all (child s ss) none w v r r' f g p q e = not_closed s p.0 (p.1 ++ (codes "}" ∷ r)) r' p.2 (sym (moved _ _ p.4 q e) ∙ regroup p.0 p.1 (codes "}" ∷ r))
+  all (child s ss) (child t ts) w v r r' f g p q e =
+      let k : Same s t (p.1 ++ (codes "}" ∷ r)) (q.1 ++ (codes "}" ∷ r')) =
+      one s t p.0 q.0 (p.1 ++ (codes "}" ∷ r)) (q.1 ++ (codes "}" ∷ r')) f.0 g.0 p.2 q.2 (sym (regroup p.0 p.1 (codes "}" ∷ r)) ∙ moved _ _ p.4 q.4 e ∙ regroup q.0 q.1 (codes "}" ∷ r')) in
+      child_same s t ss ts r r' k.shape (all ss ts p.1 q.1 r r' f.1 g.1 p.3 q.3 k.rest)
+
+pub words_of_one_tree : WordsOfOneTree
+words_of_one_tree ws s t h k p q = (one s t ws ws [] [] h.ranges k.ranges p q refl).shape
 
 pub spells_one_tree : SpellsOneTree
-spells_one_tree text s t h k = (one s t [] [] h.allowed.ranges k.allowed.ranges (ap (λ ws. ws ++ []) (given (words s) (words t) (sym h.tokens ∙ k.tokens)))).shape
+spells_one_tree text s t h k =
+    let same : h.words ≡ k.words = given h.words k.words (sym h.tokens ∙ k.tokens) in
+    words_of_one_tree k.words s t h.allowed k.allowed (subst (IsWords s) same h.spelled) k.spelled
