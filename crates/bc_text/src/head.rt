@@ -1,9 +1,9 @@
-//! The two first lines, and the lines of notes.
+//! The first lines, and the lines of notes.
 ghost use Rattle.std.specs.Prelude.{◌≡◌, ◌++◌, Some};
 ghost use Rattle.bc_text.specs.declared.note.Head.TheVariants as heads;
 ghost use Rattle.bc_text.specs.declared.note.Spot.TheVariants as spots;
 ghost use Rattle.bc_io.specs.Growing.{GrewBy};
-ghost use Rattle.bc_text.specs.Layout.{spot_text, mark_text, note_line, box_line, head_text};
+ghost use Rattle.bc_text.specs.Layout.{spot_text, mark_text, note_line, flat_box_line, solid_box_line, head_text};
 
 use crate::indent::put_indent;
 use crate::{Head, Mark, Spot};
@@ -16,19 +16,30 @@ pub fn put_head<K: Sink>(pen: &mut Pen<K>, head: &Head)
     match head {
         Head::Contour(b) => put_flat_head(pen, b),
         Head::Solid(b) => put_solid_head(pen, b),
+        Head::Plain { flat } => put_plain_head(pen, *flat),
+    }
+}
+
+fn put_plain_head<K: Sink>(pen: &mut Pen<K>, flat: bool)
+    ensures { GrewBy K.held K.faults pen.old pen.new (head_text (heads.Plain flat)) }
+{
+    if flat {
+        pen.put(b"// bcsg 2 contour\n");
+    } else {
+        pen.put(b"// bcsg 2 solid\n");
     }
 }
 
 fn put_flat_head<K: Sink>(pen: &mut Pen<K>, b: &Box2)
     ensures { GrewBy K.held K.faults pen.old pen.new (head_text (heads.Contour b.now)) }
 {
-    pen.put(b"// bcsg 1 contour\n");
+    pen.put(b"// bcsg 2 contour\n");
     put_flat_box(pen, b);
     pen.put(b"\n");
 }
 
 fn put_flat_box<K: Sink>(pen: &mut Pen<K>, b: &Box2)
-    ensures { GrewBy K.held K.faults pen.old pen.new (box_line (heads.Contour b.now)) }
+    ensures { GrewBy K.held K.faults pen.old pen.new (flat_box_line b.now) }
 {
     pen.put(b"// box ");
     pen.put_number(b.x0);
@@ -40,13 +51,14 @@ fn put_flat_box<K: Sink>(pen: &mut Pen<K>, b: &Box2)
 fn put_solid_head<K: Sink>(pen: &mut Pen<K>, b: &Box3)
     ensures { GrewBy K.held K.faults pen.old pen.new (head_text (heads.Solid b.now)) }
 {
-    pen.put(b"// bcsg 1 solid\n");
+    pen.put(b"// bcsg 2 solid\n");
     put_solid_box(pen, b);
     pen.put(b"\n");
 }
 
-fn put_solid_box<K: Sink>(pen: &mut Pen<K>, b: &Box3)
-    ensures { GrewBy K.held K.faults pen.old pen.new (box_line (heads.Solid b.now)) }
+/// The second line of the head of a solid, which says its box, without the line's end.
+pub fn put_solid_box<K: Sink>(pen: &mut Pen<K>, b: &Box3)
+    ensures { GrewBy K.held K.faults pen.old pen.new (solid_box_line b.now) }
 {
     pen.put(b"// box ");
     pen.put_number(b.x0);

@@ -1,9 +1,9 @@
-//! The lines of leaves, without the indent and the `;`.
+//! The lines of leaves, without the indent and the `;`: an axis leaf in its short form.
 ghost use Rattle.std.specs.Prelude.{◌≡◌, ◌++◌, pos};
 ghost use Rattle.bc_tree.specs.declared.tree.Leaf.TheVariants as leaves;
 ghost use Rattle.bc_tree.specs.Leaves.{IsLeaf, IsFrame3, IsFrame2, IsBlock, IsTile, u_of, v_of, normal_of};
 ghost use Rattle.bc_io.specs.Growing.{GrewBy};
-ghost use Rattle.bc_text.specs.Layout.{vec2_text, vec3_text, vec4_text, translate_text, cube_text, square_text, circle_text, matrix_text, slab_text, strip_text, leaf_text, last_row};
+ghost use Rattle.bc_text.specs.Layout.{vec2_text, vec3_text, vec4_text, translate_text, cube_text, square_text, circle_text, matrix_text, slab_text, strip_text, box3_text, box2_text, leaf_text, last_row};
 
 use bc_io::{Pen, Sink};
 use bc_num::{Box2, Box3, Disc2, V2, V3};
@@ -23,6 +23,25 @@ pub fn put_leaf<K: Sink>(pen: &mut Pen<K>, leaf: &Leaf)
 }
 
 fn put_slab<K: Sink>(pen: &mut Pen<K>, f: &Frame3)
+    requires { IsFrame3 f.now }
+    ensures { GrewBy K.held K.faults pen.old pen.new (leaf_text (leaves.Slab f.now)) }
+{
+    if f.is_axis() {
+        put_box3(pen, f.least_corner(), f.sides());
+    } else {
+        put_long_slab(pen, f);
+    }
+}
+
+// The box of this least corner and these sides.
+fn put_box3<K: Sink>(pen: &mut Pen<K>, corner: V3, sides: V3)
+    ensures { GrewBy K.held K.faults pen.old pen.new (box3_text corner sides) }
+{
+    put_translate(pen, corner.x, corner.y, corner.z);
+    put_cube(pen, sides.x, sides.y, sides.z);
+}
+
+fn put_long_slab<K: Sink>(pen: &mut Pen<K>, f: &Frame3)
     requires { IsFrame3 f.now }
     ensures { GrewBy K.held K.faults pen.old pen.new (slab_text f.now.o (u_of f.now.n) (v_of f.now.n) f.now.n) }
 {
@@ -46,6 +65,25 @@ fn put_columns<K: Sink>(pen: &mut Pen<K>, u: V3, v: V3, n: V3, o: V3)
 }
 
 fn put_strip<K: Sink>(pen: &mut Pen<K>, f: &Frame2)
+    requires { IsFrame2 f.now }
+    ensures { GrewBy K.held K.faults pen.old pen.new (leaf_text (leaves.Strip f.now)) }
+{
+    if f.is_axis() {
+        put_box2(pen, f.least_corner(), f.sides());
+    } else {
+        put_long_strip(pen, f);
+    }
+}
+
+// The rectangle of this least corner and these sides.
+fn put_box2<K: Sink>(pen: &mut Pen<K>, corner: V2, sides: V2)
+    ensures { GrewBy K.held K.faults pen.old pen.new (box2_text corner sides) }
+{
+    put_translate(pen, corner.x, corner.y, 0);
+    put_square(pen, sides.x, sides.y);
+}
+
+fn put_long_strip<K: Sink>(pen: &mut Pen<K>, f: &Frame2)
     requires { IsFrame2 f.now }
     ensures { GrewBy K.held K.faults pen.old pen.new (strip_text f.now.o f.now.u (normal_of f.now.u)) }
 {

@@ -13,7 +13,7 @@ use std::test::Fail;
 
 // The texts, as the OpenSCAD language and this project's layout have them, written by hand.
 const DISC: &str = "\
-// bcsg 1 contour
+// bcsg 2 contour
 // box -6 -6 6 6
 union() {
   // own 2 -2 1
@@ -28,7 +28,7 @@ union() {
 ";
 
 const TETRAHEDRON: &str = "\
-// bcsg 1 solid
+// bcsg 2 solid
 // box -1 -1 -1 2 2 2
 union() {
   // own 1 1 1 8
@@ -36,11 +36,11 @@ union() {
     intersection() {
       translate([-1,-1,-1]) cube([3,3,3]);
       // out 1 1 -1 4
-      multmatrix([[1,0,0,0],[0,1,0,0],[0,0,1,0],[0,0,0,1]]) translate([-8192,-8192,0]) cube([16384,16384,8192]);
+      translate([-8192,-8192,0]) cube([16384,16384,8192]);
       // out 1 -1 1 4
-      multmatrix([[1,0,0,0],[0,0,1,0],[0,-1,0,0],[0,0,0,1]]) translate([-8192,-8192,0]) cube([16384,16384,8192]);
+      translate([-8192,0,-8192]) cube([16384,8192,16384]);
       // out -1 1 1 4
-      multmatrix([[0,0,1,0],[-1,0,0,0],[0,-1,0,0],[0,0,0,1]]) translate([-8192,-8192,0]) cube([16384,16384,8192]);
+      translate([0,-8192,-8192]) cube([8192,16384,16384]);
     }
     // out 1 1 1 1
     multmatrix([[1,1,1,1],[-1,0,1,0],[0,-1,1,0],[0,0,0,1]]) translate([-8192,-8192,0]) cube([16384,16384,8192]);
@@ -49,7 +49,7 @@ union() {
 ";
 
 const BULGE: &str = "\
-// bcsg 1 contour
+// bcsg 2 contour
 // box -1 -1 16 11
 union() {
   // own 10 10 3
@@ -57,14 +57,14 @@ union() {
     intersection() {
       translate([-1,-1,0]) square([17,12]);
       // out 10 -1 3
-      multmatrix([[1,0,0,0],[0,1,0,0],[0,0,1,0],[0,0,0,1]]) translate([-8192,0,0]) square([16384,8192]);
+      translate([-8192,0,0]) square([16384,8192]);
       // out 61 5 4
-      multmatrix([[0,-1,0,10],[1,0,0,0],[0,0,1,0],[0,0,0,1]]) translate([-8192,0,0]) square([16384,8192]);
+      translate([-8182,-8192,0]) square([8192,16384]);
     }
     // out 10 31 3
-    multmatrix([[1,0,0,10],[0,1,0,10],[0,0,1,0],[0,0,0,1]]) translate([-8192,0,0]) square([16384,8192]);
+    translate([-8182,10,0]) square([16384,8192]);
     // out -1 10 3
-    multmatrix([[0,-1,0,0],[1,0,0,10],[0,0,1,0],[0,0,0,1]]) translate([-8192,0,0]) square([16384,8192]);
+    translate([-8192,-8182,0]) square([8192,16384]);
   }
   // own 42 10 3
   difference() {
@@ -379,5 +379,23 @@ fn a_tree_at_a_depth(rt: HostRuntime) -> Result<(), Fail> {
     let mut out = MemSink::new(alloc, 4096, 4096, fails).map_err(|_| "memory")?;
     assert!(rt; put_tree(&t, 2, &mut buf, &mut out).is_err());
     assert_eq!(rt; out.held(), b"    union(".as_slice());
+    Ok(())
+}
+
+#[test]
+fn without_a_box(rt: HostRuntime) -> Result<(), Fail> {
+    let alloc = rt.alloc();
+    let down = Tree::Leaf(slab(V3 { x: 1, y: 2, z: 3 }, V3 { x: -1, y: 0, z: 0 })?);
+    let out = text_of(alloc, &down, &Head::Plain { flat: false }, &[])?;
+    assert_eq!(rt;
+        out.held(),
+        b"// bcsg 2 solid\ntranslate([-8191,-8190,-8189]) cube([8192,16384,16384]);\n".as_slice()
+    );
+    let left = Tree::Leaf(strip(V2 { x: 4, y: 5 }, V2 { x: -1, y: 0 })?);
+    let out = text_of(alloc, &left, &Head::Plain { flat: true }, &[])?;
+    assert_eq!(rt;
+        out.held(),
+        b"// bcsg 2 contour\ntranslate([-8188,-8187,0]) square([16384,8192]);\n".as_slice()
+    );
     Ok(())
 }
