@@ -1,6 +1,6 @@
 -- Tokens without a fault go on to a tree: a pattern is completed with the numbers of a leaf or with zeros, a leaf is put where a
 -- node may stand, and the operators are ended.
-use Rattle.std.proofs.Common.{◌≡◌, ◌+◌, ◌≤◌, ℕ, zero, suc, Bool, true, false, not, ◌&&◌, ◌||◌, nat_eq, nat_lt, List, [], ◌∷◌, ◌++◌, length, length-append, drop, Option, None, Some, Result, Ok, Err, codes, bytes_eq, refl, sym, ap, ◌∙◌, subst, append_assoc, append-nil, if◌then◌else◌, eqb-true, arith}
+use Rattle.std.proofs.Common.{◌≡◌, inl, inr, ◌+◌, ◌≤◌, ℕ, zero, suc, Bool, true, false, not, ◌&&◌, ◌||◌, nat_eq, nat_lt, List, [], ◌∷◌, ◌++◌, length, length-append, drop, Option, None, Some, Result, Ok, Err, codes, bytes_eq, refl, sym, ap, ◌∙◌, subst, append_assoc, append-nil, if◌then◌else◌, eqb-true, arith}
 use Rattle.std.proofs.lemmas.Bool.{and_parts}
 use Rattle.std.specs.Prelude.{ℤ, pos, map}
 use Rattle.std.specs.Fmt.{signed_decimal, digits}
@@ -15,8 +15,8 @@ use Rattle.bc_tree.specs.declared.tree.Leaf.TheVariants as leaves
 use Rattle.bc_tree.specs.declared.tree.Tree.{Tree}
 use Rattle.bc_tree.specs.declared.tree.Tree.TheVariants as trees
 use Rattle.bc_tree.specs.Leaves.{IsLeaf}
-use Rattle.bc_tree.specs.Shape.{leaf, shape}
-use Rattle.bc_tree.specs.Words.{words}
+use Rattle.bc_tree.specs.Shape.{shape}
+use Rattle.bc_tree.specs.Words.{long_words}
 use Rattle.bc_text.proofs.Pieces.{Closed, both, nothing, number, whole as closed_whole}
 use Rattle.bc_read.specs.declared.part.Op.{Op}
 use Rattle.bc_read.specs.declared.part.Op.TheVariants.{Union, Meet, Cut}
@@ -30,12 +30,12 @@ use Rattle.bc_read.specs.declared.fault.CsgFault.{CsgFault}
 use Rattle.bc_read.specs.declared.fault.CsgFault.TheVariants.{Mixed}
 use Rattle.bc_read.specs.Table.{pattern, is_number_place, word_of, begins, chosen}
 use Rattle.bc_read.specs.Numbers.{is_numeral, value_of}
-use Rattle.bc_read.specs.Leaves.{form_of, numbers_of, leaf_of}
+use Rattle.bc_read.specs.Leaves.{form_of, numbers_of, short_form, short_numbers, Says, leaf_of}
 use Rattle.bc_read.specs.Machine.{At, node, inside, whole, State, start, add, tree_of_kids, closed, close, at_node, mixes, with_leaf, ended_part, passed, at_number, at_shape, at_want, step_at, step, run, end_line, ◌>>=◌}
 use Rattle.bc_read.specs.Laws.{behind, BeginTree, IsUpToLeaf, LeafGoesOn, MayBe, IsBegun, LeafBegins, GoesOnAt, FrontGoesOn}
 use Rattle.bc_read.proofs.Patterns.{lead, places}
 use Rattle.bc_read.proofs.Seen.{reached, Inside, StandsAt, Stands, Shaped, shaped, same-ok, at-start, stands-on}
-use Rattle.bc_read.proofs.Spelled.{Comes, comes, Near, nodes, ins, opens, step-number, step-word, near-0, numbers-near, leaf-ends, leaf-to, close-to, ends}
+use Rattle.bc_read.proofs.Spelled.{Comes, comes, Near, nodes, ins, opens, step-number, step-word, near-0, says-near, leaf-ends, semi, long-to, close-to, ends}
 
 -- ---- the ends of operators
 
@@ -116,13 +116,13 @@ record Fitting (seen : Option Bool) : Type 0 where
   bytes : List ℕ
   is_leaf : IsLeaf one
   unmixed : mixes seen (is_solid_leaf one) ≡ false
-  tokens : Closed bytes (words (leaf one))
+  tokens : Closed bytes (semi (long_words one))
 
-tile-closed : Closed (codes "translate([0,0,0])square([1,1]);") (words (leaf a_tile))
+tile-closed : Closed (codes "translate([0,0,0])square([1,1]);") (semi (long_words a_tile))
 unfolding digits
 tile-closed = record { is = λ rest. refl }
 
-block-closed : Closed (codes "translate([0,0,0])cube([1,1,1]);") (words (leaf a_block))
+block-closed : Closed (codes "translate([0,0,0])cube([1,1,1]);") (semi (long_words a_block))
 unfolding digits
 block-closed = record { is = λ rest. refl }
 
@@ -136,7 +136,7 @@ abbrev node_bytes : List Open → Option Bool → List ℕ
 node_bytes stack seen = (fitting seen).bytes ++ end_bytes (length stack)
 
 abbrev node_words : List Open → Option Bool → List (List ℕ)
-node_words stack seen = words (leaf (fitting seen).one) ++ end_words (length stack)
+node_words stack seen = semi (long_words (fitting seen).one) ++ end_words (length stack)
 
 node-closed : (stack : List Open) (seen : Option Bool) → Closed (node_bytes stack seen) (node_words stack seen)
 node-closed stack seen = both (fitting seen).tokens (all-ends (length stack))
@@ -144,7 +144,7 @@ node-closed stack seen = both (fitting seen).tokens (all-ends (length stack))
 node-on : (stack : List Open) (seen : Option Bool) (e : ℕ) (st : Stream) → Comes st (node_words stack seen) → GivesTree e (nodes stack seen) st
 node-on stack seen e st r =
     let l = fitting seen in
-    let a = leaf-to l.one stack seen l.is_leaf l.unmixed e st (end_words (length stack)) r in
+    let a = long-to l.one l.is_leaf stack seen l.unmixed e st (end_words (length stack)) r in
     let b = all-closed stack (trees.Leaf l.one) (Some (is_solid_leaf l.one)) e a.rest a.left in
     record { tree = b.tree; is = a.same ∙ b.is }
 
@@ -383,11 +383,11 @@ up (Some l) f stack seen e st r = up-by (mixes seen (is_solid_leaf l)) l f stack
 leaf-goes : (form : Form) (ns : List ℤ) (f : Place) (stack : List Open) (seen : Option Bool) (s : State) → Whole_leaf form ns f stack seen s → LeafGoesOn f s
 leaf-goes form ns f stack seen s w = (w.text, subst (IsUpToLeaf f) (sym w.is) (up (leaf_of form ns) f stack seen (end_line w.text) w.rest w.left))
 
-tree-goes : (l : ALeaf) (ns : List ℤ) (f : Place) (stack : List Open) (seen : Option Bool) (s : State) → ns ≡ numbers_of l → IsLeaf l → mixes seen (is_solid_leaf l) ≡ false
-    → Whole_leaf (form_of l) ns f stack seen s → GoesOn s
-tree-goes l ns f stack seen s e h m w =
+tree-goes : (l : ALeaf) (form : Form) (ns : List ℤ) (f : Place) (stack : List Open) (seen : Option Bool) (s : State) → Says form ns l → mixes seen (is_solid_leaf l) ≡ false
+    → Whole_leaf form ns f stack seen s → GoesOn s
+tree-goes l form ns f stack seen s says m w =
     let a = all-closed stack (trees.Leaf l) (Some (is_solid_leaf l)) (end_line w.text) w.rest w.left in
-    (w.text, a.tree, w.is ∙ ap (λ r. r >>= λ next. run (end_line w.text) next w.rest) (ap (λ ns. with_leaf (leaf_of (form_of l) ns) f stack seen) e ∙ leaf-ends l f stack seen h m) ∙ a.is)
+    (w.text, a.tree, w.is ∙ ap (λ r. r >>= λ next. run (end_line w.text) next w.rest) (leaf-ends l form ns f stack seen says m) ∙ a.is)
 
 closing-whole : (form : Form) (b : ℕ) (wants : List ℕ) (ns ms : List ℤ) (f : Place) (stack : List Open) (seen : Option Bool) → Near ms → all_fit (b ∷ wants) ≡ true
     → Whole_leaf form (ns ++ fill_numbers (b ∷ wants) ms) f stack seen (ins (Closing form) (b ∷ wants) ns f stack seen)
@@ -507,36 +507,48 @@ wanted p wants ns sofar i =
     let came : length ns ≡ places i.came = i.count in
     omega arith
 
--- of the numbers of a leaf that begins so
-more-count : (l : ALeaf) (ns ms : List ℤ) → numbers_of l ≡ ns ++ ms → length ns + length ms ≡ places (lead (Closing (form_of l)))
-more-count l ns ms e = sym (length-append ns ms) ∙ sym (ap length e) ∙ leaf-count l
+short-count : (l : ALeaf) → length (short_numbers l) ≡ places (lead (Closing (short_form l)))
+short-count (leaves.Slab f) = refl
+short-count (leaves.Strip f) = refl
+short-count (leaves.Disc d) = refl
+short-count (leaves.Block b) = refl
+short-count (leaves.Tile b) = refl
 
-more-near : (l : ALeaf) (ns ms : List ℤ) → IsLeaf l → numbers_of l ≡ ns ++ ms → Near ms
-more-near l ns ms h e = near-behind ns ms (subst Near e (numbers-near l h))
+says-count : (form : Form) (ns : List ℤ) (l : ALeaf) → Says form ns l → length ns ≡ places (lead (Closing form))
+says-count form ns l (inl s) = ap length s.numbers ∙ leaf-count l ∙ ap (λ g. places (lead (Closing g))) (sym s.form_is)
+says-count form ns l (inr s) = ap length s.numbers ∙ short-count l ∙ ap (λ g. places (lead (Closing g))) (sym s.form_is)
+
+-- of the numbers of a leaf that begins so
+more-count : (form : Form) (l : ALeaf) (ns ms : List ℤ) → Says form (ns ++ ms) l → length ns + length ms ≡ places (lead (Closing form))
+more-count form l ns ms s = sym (length-append ns ms) ∙ says-count form (ns ++ ms) l s
+
+more-near : (form : Form) (l : ALeaf) (ns ms : List ℤ) → Says form (ns ++ ms) l → Near ms
+more-near form l ns ms s = near-behind ns ms (says-near form (ns ++ ms) l s)
 
 closing-tree : (form : Form) (b : ℕ) (wants : List ℕ) (ns : List ℤ) (f : Place) (stack : List Open) (seen : Option Bool) (sofar : List (List ℕ)) → Inside (Closing form) (b ∷ wants) ns sofar → all_fit (b ∷ wants) ≡ true
     → (l : ALeaf) → IsBegun (Closing form) ns seen l → GoesOn (ins (Closing form) (b ∷ wants) ns f stack seen)
 closing-tree form b wants ns f stack seen sofar i h l g =
     let ms : List ℤ = g.more in
-    let all : length ns + length ms ≡ places (lead (Closing (form_of l))) = more-count l ns ms g.numbers in
+    let all : length ns + length ms ≡ places (lead (Closing g.form)) = more-count g.form l ns ms g.says in
     let here : length ns + places (b ∷ wants) ≡ places (lead (Closing form)) = wanted (Closing form) (b ∷ wants) ns sofar i in
-    let same : places (lead (Closing form)) ≡ places (lead (Closing (form_of l))) = ap (λ g. places (lead (Closing g))) g.form in
+    let same : places (lead (Closing form)) ≡ places (lead (Closing g.form)) = ap (λ g. places (lead (Closing g))) g.may_be in
     let count : length ms ≡ places (b ∷ wants) = omega arith in
-    let numbers_are : ns ++ fill_numbers (b ∷ wants) ms ≡ numbers_of l = ap (λ l. ns ++ l) (fill-all (b ∷ wants) ms count) ∙ sym g.numbers in
-    let w = closing-whole form b wants ns ms f stack seen (more-near l ns ms g.in_range g.numbers) h in
-    tree-goes l (ns ++ fill_numbers (b ∷ wants) ms) f stack seen (ins (Closing form) (b ∷ wants) ns f stack seen) numbers_are g.in_range g.kind
-    (subst (λ g. Whole_leaf g (ns ++ fill_numbers (b ∷ wants) ms) f stack seen (ins (Closing form) (b ∷ wants) ns f stack seen)) g.form w)
+    let ns' : List ℤ = ns ++ fill_numbers (b ∷ wants) ms in
+    let numbers_are : ns ++ ms ≡ ns' = sym (ap (λ l. ns ++ l) (fill-all (b ∷ wants) ms count)) in
+    let w = closing-whole form b wants ns ms f stack seen (more-near g.form l ns ms g.says) h in
+    tree-goes l g.form ns' f stack seen (ins (Closing form) (b ∷ wants) ns f stack seen) (subst (λ x. Says g.form x l) numbers_are g.says) g.kind
+    (subst (λ g. Whole_leaf g ns' f stack seen (ins (Closing form) (b ∷ wants) ns f stack seen)) g.may_be w)
 
 part-tree : (p : Part) → Waits p → (wants : List ℕ) (ns : List ℤ) (f : Place) (stack : List Open) (seen : Option Bool) (sofar : List (List ℕ)) → Inside p wants ns sofar → all_fit wants ≡ true
-    → (l : ALeaf) → Named p (form_of l) → IsLeaf l → mixes seen (is_solid_leaf l) ≡ false → (ms : List ℤ) → numbers_of l ≡ ns ++ ms → GoesOn (ins p wants ns f stack seen)
-part-tree p waits wants ns f stack seen sofar i h l n in_range kind ms numbers =
-    let all : length ns + length ms ≡ places (lead (Closing (form_of l))) = more-count l ns ms numbers in
+    → (l : ALeaf) (form : Form) → Named p form → mixes seen (is_solid_leaf l) ≡ false → (ms : List ℤ) → Says form (ns ++ ms) l → GoesOn (ins p wants ns f stack seen)
+part-tree p waits wants ns f stack seen sofar i h l form n kind ms says =
+    let all : length ns + length ms ≡ places (lead (Closing form)) = more-count form l ns ms says in
     let here : length ns + places wants ≡ places (lead p) = wanted p wants ns sofar i in
-    let both_count : places (lead (Closing (form_of l))) ≡ places (lead p) + places (40 ∷ n.wants) = n.count in
+    let both_count : places (lead (Closing form)) ≡ places (lead p) + places (40 ∷ n.wants) = n.count in
     let count : length ms ≡ places wants + places (40 ∷ n.wants) = omega arith in
     let ns' : List ℤ = (ns ++ fill_numbers wants ms) ++ fill_numbers (40 ∷ n.wants) (fill_left wants ms) in
-    let numbers_are : ns' ≡ numbers_of l = append_assoc ns (fill_numbers wants ms) (fill_numbers (40 ∷ n.wants) (fill_left wants ms)) ∙ ap (λ l. ns ++ l) (fill-both wants (40 ∷ n.wants) ms count) ∙ sym numbers in
-    tree-goes l ns' f stack seen (ins p wants ns f stack seen) numbers_are in_range kind (part-whole p (form_of l) n waits wants ns ms f stack seen (more-near l ns ms in_range numbers) h)
+    let numbers_are : ns' ≡ ns ++ ms = append_assoc ns (fill_numbers wants ms) (fill_numbers (40 ∷ n.wants) (fill_left wants ms)) ∙ ap (λ l. ns ++ l) (fill-both wants (40 ∷ n.wants) ms count) in
+    tree-goes l form ns' f stack seen (ins p wants ns f stack seen) (subst (λ x. Says form x l) (sym numbers_are) says) kind (part-whole p form n waits wants ns ms f stack seen (more-near form l ns ms says) h)
 
 -- ---- what the states of the machine are
 
@@ -567,7 +579,7 @@ Told front s = GoesOn s → BeginTree front
 in-leaf : (p : Part) (form : Form) (n : Named p form) → Waits p → ((g : Form) → MayBe p g → Named p g) → (wants : List ℕ) (ns : List ℤ) (f : Place) (stack : List Open) (seen : Option Bool) (sofar : List (List ℕ))
     → Inside p wants ns sofar → all_fit wants ≡ true → (front : List AToken) → Told front (ins p wants ns f stack seen) → LeafBegins p ns f front (ins p wants ns f stack seen)
 in-leaf p form n waits named wants ns f stack seen sofar i h front told = record {
-  tree = λ l g. told (part-tree p waits wants ns f stack seen sofar i h l (named (form_of l) g.form) g.in_range g.kind g.more g.numbers);
+  tree = λ l g. told (part-tree p waits wants ns f stack seen sofar i h l g.form (named g.form g.may_be) g.kind g.more g.says);
   leaf = leaf-goes form ((ns ++ fill_numbers wants []) ++ fill_numbers (40 ∷ n.wants) (fill_left wants [])) f stack seen (ins p wants ns f stack seen) (part-whole p form n waits wants ns [] f stack seen tt h);
 }
 

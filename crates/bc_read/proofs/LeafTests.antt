@@ -29,11 +29,11 @@ use Rattle.bc_tree.specs.declared.frame.Frame3.{Frame3}
 use Rattle.bc_tree.specs.Leaves.{IsBetween, IsPrimitive3, IsFrame2, IsFrame3, IsLeaf}
 use Rattle.bc_read.specs.declared.part.Form.{Form}
 use Rattle.bc_read.specs.declared.part.Form.TheVariants.{Slab, Strip, Disc, Block, Tile}
-use Rattle.bc_read.specs.Leaves.{form_of, numbers_of, Says, Tells, is_near, is_between, gcd_within, gcd, is_primitive2, is_primitive3, is_leaf, less_by, where_less, disc_at, tile_at, block_at, candidate, checked, IsSideFrom, leaf_of}
+use Rattle.bc_read.specs.Leaves.{form_of, numbers_of, LongSays, LongTells, is_near, is_between, gcd_within, gcd, is_primitive2, is_primitive3, is_leaf, less_by, where_less, disc_at, tile_at, block_at, candidate, checked, IsSideFrom, long_of}
 
 -- ---- ranges
 
-near : (n : ℕ) (z : ℤ) → Decides (is_near n z) (IsWithin n z)
+pub near : (n : ℕ) (z : ℤ) → Decides (is_near n z) (IsWithin n z)
 near n z = (λ e. record { within = grind (arith, nat_tests) }, λ h. let k = h.within in grind (arith, nat_tests))
 
 le-is : (a b : ℤ) → int_le a b ≡ true → a ≤ℤ b
@@ -120,7 +120,7 @@ leaf-test (leaves.Tile b) =
 
 -- ---- lists of numbers
 
-alike : (ys zs : List ℤ) → Decides (pointwise int_eq ys zs) (ys ≡ zs)
+pub alike : (ys zs : List ℤ) → Decides (pointwise int_eq ys zs) (ys ≡ zs)
 alike ys zs = slice_eq-Decides Decides-int_eq ys zs (pointwise int_eq ys zs) refl
 
 pub same-is : (ys zs : List ℤ) → pointwise int_eq ys zs ≡ true → ys ≡ zs
@@ -161,7 +161,7 @@ candidate-is (leaves.Tile b) =
     ∙ less b.y0 (b.y0 +ℤ (b.y1 -ℤ b.y0)) _ (far-less b.y0 b.y1 b.high)
     ∙ ap (λ (b : Box2). Some (leaves.Tile b)) (box2_same _ b refl refl (far-end b.x0 b.x1) (far-end b.y0 b.y1))
 
-said : (form : Form) (ns : List ℤ) (l : Leaf) → Says form ns l → candidate form ns ≡ Some l
+said : (form : Form) (ns : List ℤ) (l : Leaf) → LongSays form ns l → candidate form ns ≡ Some l
 said form ns l s = (λ i. candidate (s.form_is i) (s.numbers i)) ∙ candidate-is l
 
 -- what comes is of this form
@@ -206,14 +206,14 @@ candidate-of Tile ns = tile-of (get_or ns 0 (pos 0)) (get_or ns 1 (pos 0)) (get_
 abbrev passes : List ℤ → Leaf → Bool
 passes ns l = pointwise int_eq ns (numbers_of l) && is_leaf l
 
-says-passes : (form : Form) (ns : List ℤ) (l : Leaf) → Says form ns l → passes ns l ≡ true
+says-passes : (form : Form) (ns : List ℤ) (l : Leaf) → LongSays form ns l → passes ns l ≡ true
 says-passes form ns l s = and_from (pointwise int_eq ns (numbers_of l)) (is_leaf l) (is-same ns (numbers_of l) s.numbers) ((leaf-test l).1 s.in_range)
 
 -- numbers say one leaf at most, which is this
-pub told : (form : Form) (ns : List ℤ) (l : Leaf) → Says form ns l → leaf_of form ns ≡ Some l
-told form ns l s = ap (checked ns) (said form ns l s) ∙ ap (λ c. if c then Some l else None) (says-passes form ns l s)
+pub long_told : (form : Form) (ns : List ℤ) (l : Leaf) → LongSays form ns l → long_of form ns ≡ Some l
+long_told form ns l s = ap (checked ns) (said form ns l s) ∙ ap (λ c. if c then Some l else None) (says-passes form ns l s)
 
-tells-by : (form : Form) (ns : List ℤ) (l : Leaf) → candidate form ns ≡ Some l → (c d : Bool) → pointwise int_eq ns (numbers_of l) ≡ c → is_leaf l ≡ d → Tells (if c && d then Some l else None) form ns
+tells-by : (form : Form) (ns : List ℤ) (l : Leaf) → candidate form ns ≡ Some l → (c d : Bool) → pointwise int_eq ns (numbers_of l) ≡ c → is_leaf l ≡ d → LongTells (if c && d then Some l else None) form ns
 tells-by form ns l e true true f g = record { form_is = candidate-of form ns l e; numbers = same-is ns (numbers_of l) f; in_range = (leaf-test l).0 g }
 tells-by form ns l e true false f g = λ m s.
     let same : l ≡ m = let h : Some l ≡ Some m = sym e ∙ said form ns m s in cc h in
@@ -224,20 +224,20 @@ tells-by form ns l e false d f g = λ m s.
     let yes : passes ns l ≡ true = ap (passes ns) same ∙ says-passes form ns m s in
     let not_so : passes ns l ≡ false = (λ i. f i && g i) in cc
 
-tells-at : (form : Form) (ns : List ℤ) (o : Option Leaf) → candidate form ns ≡ o → Tells (checked ns o) form ns
+tells-at : (form : Form) (ns : List ℤ) (o : Option Leaf) → candidate form ns ≡ o → LongTells (checked ns o) form ns
 tells-at form ns None e = λ l s. let never : None ≡ Some l = sym e ∙ said form ns l s in cc never
 tells-at form ns (Some l) e = tells-by form ns l e (pointwise int_eq ns (numbers_of l)) (is_leaf l) refl refl
 
-pub leaf_tells : (form : Form) (ns : List ℤ) → Tells (leaf_of form ns) form ns
-leaf_tells form ns = tells-at form ns (candidate form ns) refl
+pub long_tells : (form : Form) (ns : List ℤ) → LongTells (long_of form ns) form ns
+long_tells form ns = tells-at form ns (candidate form ns) refl
 
-none-is : (form : Form) (ns : List ℤ) (q : Option Leaf) → Tells q form ns → Tells None form ns → None ≡ q
+none-is : (form : Form) (ns : List ℤ) (q : Option Leaf) → LongTells q form ns → LongTells None form ns → None ≡ q
 none-is form ns None h n = refl
 none-is form ns (Some l) h n = absurd (n l h)
 
-pub same_answer : (r : Option Leaf) (form : Form) (ns : List ℤ) → Tells r form ns → r ≡ leaf_of form ns
-same_answer None form ns h = none-is form ns (leaf_of form ns) (leaf_tells form ns) h
-same_answer (Some l) form ns h = sym (told form ns l h)
+pub same_long : (r : Option Leaf) (form : Form) (ns : List ℤ) → LongTells r form ns → r ≡ long_of form ns
+same_long None form ns h = none-is form ns (long_of form ns) (long_tells form ns) h
+same_long (Some l) form ns h = sym (long_told form ns l h)
 
 -- ---- what is said by some numbers
 
@@ -252,7 +252,7 @@ record TileSays (x y z a b : ℤ) : Type 0 where
   along_y : IsSideFrom y b
   flat : z ≡ pos 0
 
-tile-says : (x y z a b : ℤ) (l : Leaf) → Says Tile (x ∷ y ∷ z ∷ a ∷ b ∷ []) l → TileSays x y z a b
+tile-says : (x y z a b : ℤ) (l : Leaf) → LongSays Tile (x ∷ y ∷ z ∷ a ∷ b ∷ []) l → TileSays x y z a b
 tile-says x y z a b (leaves.Slab f) s = cc s.form_is
 tile-says x y z a b (leaves.Strip f) s = cc s.form_is
 tile-says x y z a b (leaves.Disc d) s = cc s.form_is
@@ -266,27 +266,27 @@ tile-says x y z a b (leaves.Tile t) s =
       flat = ap (at 2) e;
     }
 
-no-some : {A : Type 0} (o : Option A) → o ≡ None → IsSome o → ⊥
+pub no-some : {A : Type 0} (o : Option A) → o ≡ None → IsSome o → ⊥
 no-some None e h = cc h
 no-some (Some x) e h = cc e
 
-none-tells : (r : Option Leaf) (form : Form) (ns : List ℤ) → r ≡ None → ((l : Leaf) → Says form ns l → ⊥) → Tells r form ns
-none-tells r form ns e h = subst (λ r. Tells r form ns) (sym e) h
+none-tells : (r : Option Leaf) (form : Form) (ns : List ℤ) → r ≡ None → ((l : Leaf) → LongSays form ns l → ⊥) → LongTells r form ns
+none-tells r form ns e h = subst (λ r. LongTells r form ns) (sym e) h
 
-pub tile-no-x : (r : Option Leaf) (o : Option ℤ) (x y z a b : ℤ) → r ≡ None → o ≡ None → (IsSome o ↔ IsSideFrom x a) → Tells r Tile (x ∷ y ∷ z ∷ a ∷ b ∷ [])
+pub tile-no-x : (r : Option Leaf) (o : Option ℤ) (x y z a b : ℤ) → r ≡ None → o ≡ None → (IsSome o ↔ IsSideFrom x a) → LongTells r Tile (x ∷ y ∷ z ∷ a ∷ b ∷ [])
 tile-no-x r o x y z a b e f h = none-tells r Tile (x ∷ y ∷ z ∷ a ∷ b ∷ []) e (λ l s. no-some o f (h.1 (tile-says x y z a b l s).along_x))
 
-pub tile-no-y : (r : Option Leaf) (o : Option ℤ) (x y z a b : ℤ) → r ≡ None → o ≡ None → (IsSome o ↔ IsSideFrom y b) → Tells r Tile (x ∷ y ∷ z ∷ a ∷ b ∷ [])
+pub tile-no-y : (r : Option Leaf) (o : Option ℤ) (x y z a b : ℤ) → r ≡ None → o ≡ None → (IsSome o ↔ IsSideFrom y b) → LongTells r Tile (x ∷ y ∷ z ∷ a ∷ b ∷ [])
 tile-no-y r o x y z a b e f h = none-tells r Tile (x ∷ y ∷ z ∷ a ∷ b ∷ []) e (λ l s. no-some o f (h.1 (tile-says x y z a b l s).along_y))
 
-pub tile-no-z : (x y z a b : ℤ) → (z ≡ pos 0 → ⊥) → Tells None Tile (x ∷ y ∷ z ∷ a ∷ b ∷ [])
+pub tile-no-z : (x y z a b : ℤ) → (z ≡ pos 0 → ⊥) → LongTells None Tile (x ∷ y ∷ z ∷ a ∷ b ∷ [])
 tile-no-z x y z a b n l s = n (tile-says x y z a b l s).flat
 
 far-side : (x a e : ℤ) → e ≡ x +ℤ a → e -ℤ x ≡ a
 far-side x a e h = omega (arith, ints)
 
 pub tile-yes : (x y z a b : ℤ) (t : Box2) → t.x0 ≡ x → t.y0 ≡ y → t.x1 ≡ x +ℤ a → t.y1 ≡ y +ℤ b → IsSideFrom x a → IsSideFrom y b → z ≡ pos 0
-    → Says Tile (x ∷ y ∷ z ∷ a ∷ b ∷ []) (leaves.Tile t)
+    → LongSays Tile (x ∷ y ∷ z ∷ a ∷ b ∷ []) (leaves.Tile t)
 tile-yes x y z a b t ex ey fx fy hx hy hz =
     let wx : t.x1 -ℤ t.x0 ≡ a = omega (arith, ints) in
     let wy : t.y1 -ℤ t.y0 ≡ b = omega (arith, ints) in
@@ -306,7 +306,7 @@ record BlockSays (x y z a b c : ℤ) : Type 0 where
   along_y : IsSideFrom y b
   along_z : IsSideFrom z c
 
-block-says : (x y z a b c : ℤ) (l : Leaf) → Says Block (x ∷ y ∷ z ∷ a ∷ b ∷ c ∷ []) l → BlockSays x y z a b c
+block-says : (x y z a b c : ℤ) (l : Leaf) → LongSays Block (x ∷ y ∷ z ∷ a ∷ b ∷ c ∷ []) l → BlockSays x y z a b c
 block-says x y z a b c (leaves.Slab f) s = cc s.form_is
 block-says x y z a b c (leaves.Strip f) s = cc s.form_is
 block-says x y z a b c (leaves.Disc d) s = cc s.form_is
@@ -320,17 +320,17 @@ block-says x y z a b c (leaves.Block t) s =
       along_z = side-from z c t.z0 (t.z1 -ℤ t.z0) (ap (at 2) e) (ap (at 5) e) r.corner_z r.side_z;
     }
 
-pub block-no-x : (r : Option Leaf) (o : Option ℤ) (x y z a b c : ℤ) → r ≡ None → o ≡ None → (IsSome o ↔ IsSideFrom x a) → Tells r Block (x ∷ y ∷ z ∷ a ∷ b ∷ c ∷ [])
+pub block-no-x : (r : Option Leaf) (o : Option ℤ) (x y z a b c : ℤ) → r ≡ None → o ≡ None → (IsSome o ↔ IsSideFrom x a) → LongTells r Block (x ∷ y ∷ z ∷ a ∷ b ∷ c ∷ [])
 block-no-x r o x y z a b c e f h = none-tells r Block (x ∷ y ∷ z ∷ a ∷ b ∷ c ∷ []) e (λ l s. no-some o f (h.1 (block-says x y z a b c l s).along_x))
 
-pub block-no-y : (r : Option Leaf) (o : Option ℤ) (x y z a b c : ℤ) → r ≡ None → o ≡ None → (IsSome o ↔ IsSideFrom y b) → Tells r Block (x ∷ y ∷ z ∷ a ∷ b ∷ c ∷ [])
+pub block-no-y : (r : Option Leaf) (o : Option ℤ) (x y z a b c : ℤ) → r ≡ None → o ≡ None → (IsSome o ↔ IsSideFrom y b) → LongTells r Block (x ∷ y ∷ z ∷ a ∷ b ∷ c ∷ [])
 block-no-y r o x y z a b c e f h = none-tells r Block (x ∷ y ∷ z ∷ a ∷ b ∷ c ∷ []) e (λ l s. no-some o f (h.1 (block-says x y z a b c l s).along_y))
 
-pub block-no-z : (r : Option Leaf) (o : Option ℤ) (x y z a b c : ℤ) → r ≡ None → o ≡ None → (IsSome o ↔ IsSideFrom z c) → Tells r Block (x ∷ y ∷ z ∷ a ∷ b ∷ c ∷ [])
+pub block-no-z : (r : Option Leaf) (o : Option ℤ) (x y z a b c : ℤ) → r ≡ None → o ≡ None → (IsSome o ↔ IsSideFrom z c) → LongTells r Block (x ∷ y ∷ z ∷ a ∷ b ∷ c ∷ [])
 block-no-z r o x y z a b c e f h = none-tells r Block (x ∷ y ∷ z ∷ a ∷ b ∷ c ∷ []) e (λ l s. no-some o f (h.1 (block-says x y z a b c l s).along_z))
 
 pub block-yes : (x y z a b c : ℤ) (t : Box3) → t.x0 ≡ x → t.y0 ≡ y → t.z0 ≡ z → t.x1 ≡ x +ℤ a → t.y1 ≡ y +ℤ b → t.z1 ≡ z +ℤ c → IsSideFrom x a → IsSideFrom y b → IsSideFrom z c
-    → Says Block (x ∷ y ∷ z ∷ a ∷ b ∷ c ∷ []) (leaves.Block t)
+    → LongSays Block (x ∷ y ∷ z ∷ a ∷ b ∷ c ∷ []) (leaves.Block t)
 block-yes x y z a b c t ex ey ez fx fy fz hx hy hz =
     let wx : t.x1 -ℤ t.x0 ≡ a = omega (arith, ints) in
     let wy : t.y1 -ℤ t.y0 ≡ b = omega (arith, ints) in
@@ -356,7 +356,7 @@ frame3_of ns = record { o = record { x = at 3 ns; y = at 7 ns; z = at 11 ns }; n
 frame2_of : List ℤ → Frame2
 frame2_of ns = record { o = record { x = at 3 ns; y = at 7 ns }; u = record { x = at 0 ns; y = at 4 ns } }
 
-slab-frame : (ns : List ℤ) (l : Leaf) → Says Slab ns l → (l ≡ leaves.Slab (frame3_of ns)) × IsFrame3 (frame3_of ns)
+slab-frame : (ns : List ℤ) (l : Leaf) → LongSays Slab ns l → (l ≡ leaves.Slab (frame3_of ns)) × IsFrame3 (frame3_of ns)
 unfolding frame3_of
 slab-frame ns (leaves.Slab f) s =
     let same : f ≡ frame3_of ns = sym (ap frame3_of s.numbers) in
@@ -366,7 +366,7 @@ slab-frame ns (leaves.Disc d) s = cc s.form_is
 slab-frame ns (leaves.Block c) s = cc s.form_is
 slab-frame ns (leaves.Tile t) s = cc s.form_is
 
-strip-frame : (ns : List ℤ) (l : Leaf) → Says Strip ns l → (l ≡ leaves.Strip (frame2_of ns)) × IsFrame2 (frame2_of ns)
+strip-frame : (ns : List ℤ) (l : Leaf) → LongSays Strip ns l → (l ≡ leaves.Strip (frame2_of ns)) × IsFrame2 (frame2_of ns)
 unfolding frame2_of
 strip-frame ns (leaves.Strip f) s =
     let same : f ≡ frame2_of ns = sym (ap frame2_of s.numbers) in
@@ -377,30 +377,30 @@ strip-frame ns (leaves.Block c) s = cc s.form_is
 strip-frame ns (leaves.Tile t) s = cc s.form_is
 
 pub slab-no-frame : (r : Option Leaf) (o : Option Frame3) (ns : List ℤ) → r ≡ None → o ≡ None
-    → (IsSome o ↔ IsFrame3 (record { o = record { x = at 3 ns; y = at 7 ns; z = at 11 ns }; n = record { x = at 2 ns; y = at 6 ns; z = at 10 ns } })) → Tells r Slab ns
+    → (IsSome o ↔ IsFrame3 (record { o = record { x = at 3 ns; y = at 7 ns; z = at 11 ns }; n = record { x = at 2 ns; y = at 6 ns; z = at 10 ns } })) → LongTells r Slab ns
 unfolding frame3_of
 slab-no-frame r o ns e f h = none-tells r Slab ns e (λ l s. no-some o f (h.1 (slab-frame ns l s).1))
 
 pub strip-no-frame : (r : Option Leaf) (o : Option Frame2) (ns : List ℤ) → r ≡ None → o ≡ None
-    → (IsSome o ↔ IsFrame2 (record { o = record { x = at 3 ns; y = at 7 ns }; u = record { x = at 0 ns; y = at 4 ns } })) → Tells r Strip ns
+    → (IsSome o ↔ IsFrame2 (record { o = record { x = at 3 ns; y = at 7 ns }; u = record { x = at 0 ns; y = at 4 ns } })) → LongTells r Strip ns
 unfolding frame2_of
 strip-no-frame r o ns e f h = none-tells r Strip ns e (λ l s. no-some o f (h.1 (strip-frame ns l s).1))
 
-pub slab-yes : (ns : List ℤ) (f : Frame3) → IsFrame3 f → pointwise int_eq ns (numbers_of (leaves.Slab f)) ≡ true → Says Slab ns (leaves.Slab f)
+pub slab-yes : (ns : List ℤ) (f : Frame3) → IsFrame3 f → pointwise int_eq ns (numbers_of (leaves.Slab f)) ≡ true → LongSays Slab ns (leaves.Slab f)
 slab-yes ns f h e = record { form_is = refl; numbers = same-is ns (numbers_of (leaves.Slab f)) e; in_range = h }
 
-pub strip-yes : (ns : List ℤ) (f : Frame2) → IsFrame2 f → pointwise int_eq ns (numbers_of (leaves.Strip f)) ≡ true → Says Strip ns (leaves.Strip f)
+pub strip-yes : (ns : List ℤ) (f : Frame2) → IsFrame2 f → pointwise int_eq ns (numbers_of (leaves.Strip f)) ≡ true → LongSays Strip ns (leaves.Strip f)
 strip-yes ns f h e = record { form_is = refl; numbers = same-is ns (numbers_of (leaves.Strip f)) e; in_range = h }
 
 pub slab-no : (ns : List ℤ) (f : Frame3) → f ≡ record { o = record { x = at 3 ns; y = at 7 ns; z = at 11 ns }; n = record { x = at 2 ns; y = at 6 ns; z = at 10 ns } }
-    → pointwise int_eq ns (numbers_of (leaves.Slab f)) ≡ false → Tells None Slab ns
+    → pointwise int_eq ns (numbers_of (leaves.Slab f)) ≡ false → LongTells None Slab ns
 unfolding frame3_of
 slab-no ns f h e l s =
     let same : l ≡ leaves.Slab f = (slab-frame ns l s).0 ∙ ap (λ (f : Frame3). leaves.Slab f) (sym h) in
     let yes : pointwise int_eq ns (numbers_of (leaves.Slab f)) ≡ true = is-same ns (numbers_of (leaves.Slab f)) (s.numbers ∙ ap numbers_of same) in cc
 
 pub strip-no : (ns : List ℤ) (f : Frame2) → f ≡ record { o = record { x = at 3 ns; y = at 7 ns }; u = record { x = at 0 ns; y = at 4 ns } }
-    → pointwise int_eq ns (numbers_of (leaves.Strip f)) ≡ false → Tells None Strip ns
+    → pointwise int_eq ns (numbers_of (leaves.Strip f)) ≡ false → LongTells None Strip ns
 unfolding frame2_of
 strip-no ns f h e l s =
     let same : l ≡ leaves.Strip f = (strip-frame ns l s).0 ∙ ap (λ (f : Frame2). leaves.Strip f) (sym h) in

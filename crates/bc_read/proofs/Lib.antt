@@ -1,7 +1,10 @@
 pub mod LeafTests
+pub mod ShortTests
+pub mod BadFrames
 pub mod Turns
 pub mod NumberLaws
 pub mod Patterns
 pub mod Seen
 pub mod Spelled
 pub mod Continued
+pub mod Upgrades

@@ -11,7 +11,7 @@ use Rattle.bc_tree.specs.declared.tree.Tree.{Tree, the_lemmas}
 use Rattle.bc_tree.specs.declared.tree.Tree.TheVariants as trees
 use Rattle.bc_tree.specs.Leaves.{IsLeaf, IsFlat, IsSolid}
 use Rattle.bc_tree.specs.Shape.{Shape, leaf, union, meet, cut, Shapes, none, child, shape, shapes, depth, depths, AllLeaves, EachLeaf}
-use Rattle.bc_tree.specs.Words.{words, words_all}
+use Rattle.bc_tree.specs.Words.{long_words, short_words, IsWords, AreWords}
 use Rattle.bc_tree.specs.Spells.{AllMeetsMeet, EachMeetMeets, IsAllowed, Spells}
 use Rattle.bc_num.specs.Tokens.{cons}
 use Rattle.bc_lex.specs.Tokens.{AToken}
@@ -29,10 +29,10 @@ use Rattle.bc_read.specs.declared.fault.CsgFault.{CsgFault}
 use Rattle.bc_read.specs.declared.fault.CsgFault.TheVariants.{Memory}
 use Rattle.bc_read.specs.Table.{pattern, is_number_place, word_of, op_named, begins_by, begins, chosen}
 use Rattle.bc_read.specs.Numbers.{is_numeral, value_of}
-use Rattle.bc_read.specs.Leaves.{form_of, numbers_of, Says, Tells, leaf_of}
+use Rattle.bc_read.specs.Leaves.{form_of, numbers_of, short_form, short_numbers, Says, Tells, leaf_of}
 use Rattle.bc_read.specs.Machine.{At, node, inside, whole, State, start, add, tree_of_kids, closed, close, entered, at_node, mixes, with_leaf, ended_part, passed, at_number, at_shape, at_want, step_at, step, finish, run, reading_of, end_line, ◌>>=◌, FirstFault, Reads}
 use Rattle.bc_read.specs.Laws.{ReadIsSpelled, HasTreeOrFault}
-use Rattle.bc_read.proofs.LeafTests.{leaf_tells}
+use Rattle.bc_read.proofs.ShortTests.{leaf_tells}
 use Rattle.bc_read.proofs.NumberLaws.{value-is}
 use Rattle.bc_read.proofs.Turns.{Gives}
 use Rattle.bc_read.proofs.Patterns.{word_at, lead, plain, plain-here, spelled, places, spelled-word, places-word, spelled-number, places-number}
@@ -81,9 +81,9 @@ fine-push seen n (x ∷ ts) t f g =
     let l : depths (shapes (ts ++ t ∷ [])) + n ≤ 64 = k.nested in
     record { ranges = (f.ranges.0, k.ranges); meets = (f.meets.0, k.meets); nested = omega arith }
 
-words-push : (ts : List Tree) (t : Tree) → words_all (shapes (ts ++ t ∷ [])) ≡ words_all (shapes ts) ++ words (shape t)
-words-push [] t = append-nil (words (shape t))
-words-push (x ∷ ts) t = ap (λ l. words (shape x) ++ l) (words-push ts t) ∙ sym (append_assoc (words (shape x)) (words_all (shapes ts)) (words (shape t)))
+words-push : (ts : List Tree) (t : Tree) (a b : List (List ℕ)) → AreWords (shapes ts) a → IsWords (shape t) b → AreWords (shapes (ts ++ t ∷ [])) (a ++ b)
+words-push [] t a b p q = (b, [], q, refl, ap (λ l. l ++ b) p ∙ sym (append-nil b))
+words-push (x ∷ ts) t a b p q = (p.0, p.1 ++ b, p.2, words-push ts t p.1 b p.3 q, ap (λ l. l ++ b) p.4 ∙ append_assoc p.0 p.1 b)
 
 -- what holds of each leaf
 mutual
@@ -102,9 +102,10 @@ mutual
 abbrev opening : Op → List (List ℕ)
 opening op = spelled (lead (Opening op)) []
 
-abbrev stack_words : List Open → List (List ℕ)
-stack_words [] = []
-stack_words (top ∷ rest) = stack_words rest ++ (opening top.op ++ words_all (shapes top.kids))
+-- ws are tokens of what is open
+abbrev StackWords : List Open → List (List ℕ) → Type 0
+StackWords [] ws = ws ≡ []
+StackWords (top ∷ rest) ws = (a : List (List ℕ)) × (b : List (List ℕ)) × StackWords rest a × AreWords (shapes top.kids) b × (ws ≡ a ++ (opening top.op ++ b))
 
 abbrev Opens : Option Bool → List Open → Type 0
 Opens seen [] = Unit {0}
@@ -140,11 +141,13 @@ pub record Inside (p : Part) (wants : List ℕ) (ns : List ℤ) (sofar : List (L
 abbrev pub StandsAt : List Open → Option Bool → At → List (List ℕ) → Type 0
 StandsAt stack seen node sofar = sofar ≡ []
 StandsAt stack seen (inside p wants ns f) sofar = Room p (length stack) × Inside p wants ns sofar
-StandsAt stack seen (whole t) sofar = (stack ≡ []) × (sofar ≡ words (shape t)) × Fine seen 0 (shape t)
+StandsAt stack seen (whole t) sofar = (stack ≡ []) × IsWords (shape t) sofar × Fine seen 0 (shape t)
 
 pub record Stands (s : State) (ws : List (List ℕ)) : Type 0 where
+  pub base : List (List ℕ)
   pub sofar : List (List ℕ)
-  all : ws ≡ stack_words s.stack ++ sofar
+  all : ws ≡ base ++ sofar
+  under : StackWords s.stack base
   opens : Opens s.seen s.stack
   pub here : StandsAt s.stack s.seen s.at sofar
 
@@ -157,17 +160,21 @@ same-ok x y e = cc e
 along : (x y : State) (ws : List (List ℕ)) → yes x ≡ yes y → Stands x ws → Stands y ws
 along x y ws e h = subst (λ s. Stands s ws) (same-ok x y e) h
 
-added : (t : Tree) (stack : List Open) (seen : Option Bool) (ws : List (List ℕ)) → ws ≡ stack_words stack ++ words (shape t) → Fine seen (length stack) (shape t) → Opens seen stack → Stands (add t stack seen) ws
-added t [] seen ws e f o = record { sofar = words (shape t); all = e; opens = tt; here = (refl, refl, f) }
-added t (top ∷ rest) seen ws e f o = record {
-  sofar = [];
-  all =
-      e ∙ append_assoc (stack_words rest) (opening top.op ++ words_all (shapes top.kids)) (words (shape t))
-      ∙ ap (λ l. stack_words rest ++ l) (append_assoc (opening top.op) (words_all (shapes top.kids)) (words (shape t)) ∙ ap (λ l. opening top.op ++ l) (sym (words-push top.kids t)))
-      ∙ sym (append-nil (stack_words rest ++ (opening top.op ++ words_all (shapes (top.kids ++ t ∷ [])))));
-  opens = (fine-push seen (suc (length rest)) top.kids t o.0 f, o.1);
-  here = refl;
-}
+added : (t : Tree) (stack : List Open) (seen : Option Bool) (ws base sofar : List (List ℕ)) → ws ≡ base ++ sofar → StackWords stack base → IsWords (shape t) sofar → Fine seen (length stack) (shape t)
+    → Opens seen stack → Stands (add t stack seen) ws
+added t [] seen ws base sofar e u w f o = record { base = base; sofar = sofar; all = e; under = u; opens = tt; here = (refl, w, f) }
+added t (top ∷ rest) seen ws base sofar e u w f o =
+    let new : List (List ℕ) = u.0 ++ (opening top.op ++ (u.1 ++ sofar)) in
+    record {
+      base = new;
+      sofar = [];
+      all =
+          e ∙ ap (λ l. l ++ sofar) u.4 ∙ append_assoc u.0 (opening top.op ++ u.1) sofar
+          ∙ ap (λ l. u.0 ++ l) (append_assoc (opening top.op) u.1 sofar) ∙ sym (append-nil new);
+      under = (u.0, u.1 ++ sofar, u.2, words-push top.kids t u.1 sofar u.3 w, refl);
+      opens = (fine-push seen (suc (length rest)) top.kids t o.0 f, o.1);
+      here = refl;
+    }
 
 -- ---- tests
 
@@ -180,46 +187,48 @@ same_text text w e = (bytes_eq-Decides text w).0 e
 
 -- ---- `}`
 
--- the tokens and the bounds of an operator's tree
-record Made (op : Op) (kids : List Tree) (seen : Option Bool) (n : ℕ) (x : Tree) : Type 0 where
-  words_are : words (shape x) ≡ (opening op ++ words_all (shapes kids)) ++ codes "}" ∷ []
+-- the tokens and the bounds of an operator's tree, whose children have the tokens b
+record Made (op : Op) (b : List (List ℕ)) (seen : Option Bool) (n : ℕ) (x : Tree) : Type 0 where
+  words_are : IsWords (shape x) ((opening op ++ b) ++ codes "}" ∷ [])
   fine : Fine seen n (shape x)
 
-made-by : (op : Op) (kids : List Tree) (seen : Option Bool) (n : ℕ) (s : Shape) (x : Tree) → shape x ≡ s → words s ≡ (opening op ++ words_all (shapes kids)) ++ codes "}" ∷ []
-    → Fine seen n s → Made op kids seen n x
-made-by op kids seen n s x e w f = record { words_are = ap words e ∙ w; fine = subst (Fine seen n) (sym e) f }
+made-by : (op : Op) (b : List (List ℕ)) (seen : Option Bool) (n : ℕ) (s : Shape) (x : Tree) → shape x ≡ s → IsWords s ((opening op ++ b) ++ codes "}" ∷ [])
+    → Fine seen n s → Made op b seen n x
+made-by op b seen n s x e w f = record { words_are = subst (λ s. IsWords s ((opening op ++ b) ++ codes "}" ∷ [])) (sym e) w; fine = subst (Fine seen n) (sym e) f }
 
-made : (op : Op) (kids : List Tree) (seen : Option Bool) (n : ℕ) (x : Tree) → tree_of_kids op kids ≡ Some x → FineAll seen (suc n) (shapes kids) → Made op kids seen n x
-made Union kids seen n x e f =
+made : (op : Op) (kids : List Tree) (b : List (List ℕ)) (seen : Option Bool) (n : ℕ) (x : Tree) → tree_of_kids op kids ≡ Some x → AreWords (shapes kids) b → FineAll seen (suc n) (shapes kids) → Made op b seen n x
+made Union kids b seen n x e w f =
     let same : trees.Union kids ≡ x = cc e in
     let h : depths (shapes kids) + suc n ≤ 64 = f.nested in
-    subst (Made Union kids seen n) same (made-by Union kids seen n (union (shapes kids)) (trees.Union kids) (shape-Union kids) refl (record { ranges = f.ranges; meets = f.meets; nested = omega arith }))
-made Meet [] seen n x e f = cc e
-made Meet (k ∷ kids) seen n x e f =
+    subst (Made Union b seen n) same (made-by Union b seen n (union (shapes kids)) (trees.Union kids) (shape-Union kids) (b, w, refl) (record { ranges = f.ranges; meets = f.meets; nested = omega arith }))
+made Meet [] b seen n x e w f = cc e
+made Meet (k ∷ kids) b seen n x e w f =
     let same : trees.Meet (k ∷ kids) ≡ x = cc e in
     let h : depths (shapes (k ∷ kids)) + suc n ≤ 64 = f.nested in
-    subst (Made Meet (k ∷ kids) seen n) same (made-by Meet (k ∷ kids) seen n (meet (shapes (k ∷ kids))) (trees.Meet (k ∷ kids)) (shape-Meet (k ∷ kids)) refl (record { ranges = f.ranges; meets = (tt, f.meets); nested = omega arith }))
-made Cut [] seen n x e f = cc e
-made Cut (k ∷ kids) seen n x e f =
+    subst (Made Meet b seen n) same (made-by Meet b seen n (meet (shapes (k ∷ kids))) (trees.Meet (k ∷ kids)) (shape-Meet (k ∷ kids)) (b, w, refl) (record { ranges = f.ranges; meets = (tt, f.meets); nested = omega arith }))
+made Cut [] b seen n x e w f = cc e
+made Cut (k ∷ kids) b seen n x e w f =
     let same : trees.Cut k kids ≡ x = cc e in
     let h : depths (shapes (k ∷ kids)) + suc n ≤ 64 = f.nested in
-    subst (Made Cut (k ∷ kids) seen n) same (made-by Cut (k ∷ kids) seen n (cut (shape k) (shapes kids)) (trees.Cut k kids) (shape-Cut k kids) refl (record { ranges = f.ranges; meets = f.meets; nested = omega arith }))
+    subst (Made Cut b seen n) same (made-by Cut b seen n (cut (shape k) (shapes kids)) (trees.Cut k kids) (shape-Cut k kids) (w.0, w.1, w.2, w.3, ap (λ l. (opening Cut ++ l) ++ codes "}" ∷ []) w.4)
+    (record { ranges = f.ranges; meets = f.meets; nested = omega arith }))
 
-closed-stands : (o : Option Tree) (op : Op) (kids : List Tree) (rest : List Open) (seen : Option Bool) (t : AToken) (s' : State) (ws : List (List ℕ)) → tree_of_kids op kids ≡ o
-    → ws ≡ (stack_words rest ++ (opening op ++ words_all (shapes kids))) ++ [] → FineAll seen (suc (length rest)) (shapes kids) → Opens seen rest → t.text ≡ codes "}" → closed o rest seen t ≡ Ok s'
+closed-stands : (o : Option Tree) (op : Op) (kids : List Tree) (rest : List Open) (seen : Option Bool) (t : AToken) (s' : State) (ws a b : List (List ℕ)) → tree_of_kids op kids ≡ o
+    → ws ≡ (a ++ (opening op ++ b)) ++ [] → StackWords rest a → AreWords (shapes kids) b → FineAll seen (suc (length rest)) (shapes kids) → Opens seen rest → t.text ≡ codes "}" → closed o rest seen t ≡ Ok s'
     → Stands s' (ws ++ t.text ∷ [])
-closed-stands None op kids rest seen t s' ws h w f o x e = cc e
-closed-stands (Some y) op kids rest seen t s' ws h w f o x e =
-    let m = made op kids seen (length rest) y h f in
-    let base : List (List ℕ) = stack_words rest ++ (opening op ++ words_all (shapes kids)) in
-    let all : ws ++ t.text ∷ [] ≡ stack_words rest ++ words (shape y) =
-    ap (λ l. l ++ t.text ∷ []) (w ∙ append-nil base) ∙ ap (λ x. base ++ x ∷ []) x ∙ append_assoc (stack_words rest) (opening op ++ words_all (shapes kids)) (codes "}" ∷ []) ∙ ap (λ l. stack_words rest ++ l) (sym m.words_are) in
-    along (add y rest seen) s' (ws ++ t.text ∷ []) e (added y rest seen (ws ++ t.text ∷ []) all m.fine o)
+closed-stands None op kids rest seen t s' ws a b h w u k f o x e = cc e
+closed-stands (Some y) op kids rest seen t s' ws a b h w u k f o x e =
+    let m = made op kids b seen (length rest) y h k f in
+    let base : List (List ℕ) = a ++ (opening op ++ b) in
+    let all : ws ++ t.text ∷ [] ≡ a ++ ((opening op ++ b) ++ codes "}" ∷ []) =
+    ap (λ l. l ++ t.text ∷ []) (w ∙ append-nil base) ∙ ap (λ x. base ++ x ∷ []) x ∙ append_assoc a (opening op ++ b) (codes "}" ∷ []) in
+    along (add y rest seen) s' (ws ++ t.text ∷ []) e (added y rest seen (ws ++ t.text ∷ []) a ((opening op ++ b) ++ codes "}" ∷ []) all u m.words_are m.fine o)
 
-close-stands : (stack : List Open) (seen : Option Bool) (t : AToken) (s' : State) (ws : List (List ℕ)) → ws ≡ stack_words stack ++ [] → Opens seen stack → t.text ≡ codes "}" → close stack seen t ≡ Ok s'
+close-stands : (stack : List Open) (seen : Option Bool) (t : AToken) (s' : State) (ws base : List (List ℕ)) → ws ≡ base ++ [] → StackWords stack base → Opens seen stack → t.text ≡ codes "}" → close stack seen t ≡ Ok s'
     → Stands s' (ws ++ t.text ∷ [])
-close-stands [] seen t s' ws w o x e = cc e
-close-stands (top ∷ rest) seen t s' ws w o x e = closed-stands (tree_of_kids top.op top.kids) top.op top.kids rest seen t s' ws refl w o.0 o.1 x e
+close-stands [] seen t s' ws base w u o x e = cc e
+close-stands (top ∷ rest) seen t s' ws base w u o x e =
+    closed-stands (tree_of_kids top.op top.kids) top.op top.kids rest seen t s' ws u.0 u.1 refl (w ∙ ap (λ l. l ++ []) u.4) u.2 u.3 o.0 o.1 x e
 
 -- ---- where a node may stand
 
@@ -264,33 +273,35 @@ entered-inside Moved w e = record { came = codes "t"; joined = refl; plain_is = 
 entered-inside Placed w e = record { came = codes "m"; joined = refl; plain_is = refl; count = refl; words_are = ap (λ w. w ∷ []) e }
 entered-inside (Closing form) w e = absurd e
 
-entered-stands : (p : Part) (stack : List Open) (seen : Option Bool) (t : AToken) (ws : List (List ℕ)) → First p t.text → Room p (length stack) → ws ≡ stack_words stack ++ [] → Opens seen stack
+entered-stands : (p : Part) (stack : List Open) (seen : Option Bool) (t : AToken) (ws base : List (List ℕ)) → First p t.text → Room p (length stack) → ws ≡ base ++ [] → StackWords stack base → Opens seen stack
     → Stands (entered p stack seen t) (ws ++ t.text ∷ [])
-entered-stands p stack seen t ws f r w o = record {
+entered-stands p stack seen t ws base f r w u o = record {
+  base = base;
   sofar = t.text ∷ [];
-  all = ap (λ l. l ++ t.text ∷ []) (w ∙ append-nil (stack_words stack));
+  all = ap (λ l. l ++ t.text ∷ []) (w ∙ append-nil base);
+  under = u;
   opens = o;
   here = (r, entered-inside p t.text f);
 }
 
-node-stands : (o : Option Part) (stack : List Open) (seen : Option Bool) (t : AToken) (s' : State) (ws : List (List ℕ)) → begins t.text ≡ o → ws ≡ stack_words stack ++ [] → Opens seen stack
+node-stands : (o : Option Part) (stack : List Open) (seen : Option Bool) (t : AToken) (s' : State) (ws base : List (List ℕ)) → begins t.text ≡ o → ws ≡ base ++ [] → StackWords stack base → Opens seen stack
     → at_node o stack seen t ≡ Ok s' → Stands s' (ws ++ t.text ∷ [])
-node-stands None stack seen t s' ws h w o e =
+node-stands None stack seen t s' ws base h w u o e =
     elim (either_is (bytes_eq t.text (codes "}")) _ _ (Ok s') e) [
-      | inl k ↦ close-stands stack seen t s' ws w o (same_text t.text _ k.0) k.1
+      | inl k ↦ close-stands stack seen t s' ws base w u o (same_text t.text _ k.0) k.1
       | inr k ↦ cc k.1
     ]
-node-stands (Some (Opening op)) stack seen t s' ws h w o e =
+node-stands (Some (Opening op)) stack seen t s' ws base h w u o e =
     elim (either_is (nat_lt (length stack) 64) _ _ (Ok s') e) [
       | inl k ↦ along (entered (Opening op) stack seen t) s' (ws ++ t.text ∷ []) k.1
-          (entered-stands (Opening op) stack seen t ws (first-by t.text (Opening op) (op_named t.text) refl h) (ltb-true (length stack) 64 k.0) w o)
+          (entered-stands (Opening op) stack seen t ws base (first-by t.text (Opening op) (op_named t.text) refl h) (ltb-true (length stack) 64 k.0) w u o)
       | inr k ↦ cc k.1
     ]
-node-stands (Some Moved) stack seen t s' ws h w o e =
-    along (entered Moved stack seen t) s' (ws ++ t.text ∷ []) e (entered-stands Moved stack seen t ws (first-by t.text Moved (op_named t.text) refl h) tt w o)
-node-stands (Some Placed) stack seen t s' ws h w o e =
-    along (entered Placed stack seen t) s' (ws ++ t.text ∷ []) e (entered-stands Placed stack seen t ws (first-by t.text Placed (op_named t.text) refl h) tt w o)
-node-stands (Some (Closing form)) stack seen t s' ws h w o e = absurd (first-by t.text (Closing form) (op_named t.text) refl h)
+node-stands (Some Moved) stack seen t s' ws base h w u o e =
+    along (entered Moved stack seen t) s' (ws ++ t.text ∷ []) e (entered-stands Moved stack seen t ws base (first-by t.text Moved (op_named t.text) refl h) tt w u o)
+node-stands (Some Placed) stack seen t s' ws base h w u o e =
+    along (entered Placed stack seen t) s' (ws ++ t.text ∷ []) e (entered-stands Placed stack seen t ws base (first-by t.text Placed (op_named t.text) refl h) tt w u o)
+node-stands (Some (Closing form)) stack seen t s' ws base h w u o e = absurd (first-by t.text (Closing form) (op_named t.text) refl h)
 
 -- ---- a leaf is whole
 
@@ -304,12 +315,28 @@ leaf-kind (leaves.Disc d) = tt
 leaf-kind (leaves.Block b) = tt
 leaf-kind (leaves.Tile b) = tt
 
-leaf-spelled : (l : ALeaf) → spelled (lead (Closing (form_of l))) (numbers_of l) ≡ words (leaf l)
-leaf-spelled (leaves.Slab f) = refl
-leaf-spelled (leaves.Strip f) = refl
-leaf-spelled (leaves.Disc d) = refl
-leaf-spelled (leaves.Block b) = refl
-leaf-spelled (leaves.Tile b) = refl
+long-spelled : (l : ALeaf) → spelled (lead (Closing (form_of l))) (numbers_of l) ≡ long_words l ++ codes ";" ∷ []
+long-spelled (leaves.Slab f) = refl
+long-spelled (leaves.Strip f) = refl
+long-spelled (leaves.Disc d) = refl
+long-spelled (leaves.Block b) = refl
+long-spelled (leaves.Tile b) = refl
+
+short-spelled : (l : ALeaf) → spelled (lead (Closing (short_form l))) (short_numbers l) ≡ short_words l ++ codes ";" ∷ []
+short-spelled (leaves.Slab f) = refl
+short-spelled (leaves.Strip f) = refl
+short-spelled (leaves.Disc d) = refl
+short-spelled (leaves.Block b) = refl
+short-spelled (leaves.Tile b) = refl
+
+-- the tokens of a leaf in the spelling in which its numbers came
+leaf-spelled : (form : Form) (ns : List ℤ) (l : ALeaf) → Says form ns l → IsWords (leaf l) (spelled (lead (Closing form)) ns)
+leaf-spelled form ns l (inl s) = (long_words l, inl refl, (λ i. spelled (lead (Closing (s.form_is i))) (s.numbers i)) ∙ long-spelled l)
+leaf-spelled form ns l (inr s) = (short_words l, inr (s.axis, refl), (λ i. spelled (lead (Closing (s.form_is i))) (s.numbers i)) ∙ short-spelled l)
+
+in-range : (form : Form) (ns : List ℤ) (l : ALeaf) → Says form ns l → IsLeaf l
+in-range form ns l (inl s) = s.in_range
+in-range form ns l (inr s) = s.in_range
 
 not-mixed : (seen : Option Bool) (solid : Bool) → mixes seen solid ≡ false → (l : ALeaf) → KindOf seen l → KindOf (Some solid) l
 not-mixed None solid e l k = absurd k
@@ -318,24 +345,25 @@ not-mixed (Some true) false e l k = cc e
 not-mixed (Some false) true e l k = cc e
 not-mixed (Some false) false e l k = k
 
-leaf-stands : (l : ALeaf) (form : Form) (ns : List ℤ) (f : Place) (stack : List Open) (seen : Option Bool) (s' : State) (ws sofar : List (List ℕ)) → Says form ns l
-    → ws ≡ stack_words stack ++ sofar → sofar ≡ spelled (lead (Closing form)) ns → Opens seen stack → with_leaf (Some l) f stack seen ≡ Ok s' → Stands s' ws
-leaf-stands l form ns f stack seen s' ws sofar says w h o e =
+leaf-stands : (l : ALeaf) (form : Form) (ns : List ℤ) (f : Place) (stack : List Open) (seen : Option Bool) (s' : State) (ws base sofar : List (List ℕ)) → Says form ns l
+    → ws ≡ base ++ sofar → StackWords stack base → sofar ≡ spelled (lead (Closing form)) ns → Opens seen stack → with_leaf (Some l) f stack seen ≡ Ok s' → Stands s' ws
+leaf-stands l form ns f stack seen s' ws base sofar says w u h o e =
     elim (either_is (mixes seen (is_solid_leaf l)) _ _ (Ok s') e) [
       | inl k ↦ cc k.1
       | inr k ↦
           let few : length stack ≤ 64 = opens-few seen stack o in
-          let fine : Fine (kind_is l) (length stack) (leaf l) = record { ranges = (says.in_range, leaf-kind l); meets = tt; nested = omega arith } in
-          let words_are : sofar ≡ words (shape (trees.Leaf l)) = h ∙ (λ i. spelled (lead (Closing (says.form_is i))) (says.numbers i)) ∙ leaf-spelled l ∙ ap words (sym (shape-Leaf l)) in
+          let fine : Fine (kind_is l) (length stack) (leaf l) = record { ranges = (in-range form ns l says, leaf-kind l); meets = tt; nested = omega arith } in
+          let words_are : IsWords (shape (trees.Leaf l)) sofar =
+          subst (λ s. IsWords s sofar) (sym (shape-Leaf l)) (subst (IsWords (leaf l)) (sym h) (leaf-spelled form ns l says)) in
           along (add (trees.Leaf l) stack (kind_is l)) s' ws k.1
-          (added (trees.Leaf l) stack (kind_is l) ws (w ∙ ap (λ x. stack_words stack ++ x) words_are) (subst (Fine (kind_is l) (length stack)) (sym (shape-Leaf l)) fine)
+          (added (trees.Leaf l) stack (kind_is l) ws base sofar w u words_are (subst (Fine (kind_is l) (length stack)) (sym (shape-Leaf l)) fine)
           (opens-map seen (kind_is l) (not-mixed seen (is_solid_leaf l) k.0) stack o))
     ]
 
-leaf-by : (q : Option ALeaf) (form : Form) (ns : List ℤ) (f : Place) (stack : List Open) (seen : Option Bool) (s' : State) (ws sofar : List (List ℕ)) → Tells q form ns
-    → ws ≡ stack_words stack ++ sofar → sofar ≡ spelled (lead (Closing form)) ns → Opens seen stack → with_leaf q f stack seen ≡ Ok s' → Stands s' ws
-leaf-by None form ns f stack seen s' ws sofar says w h o e = cc e
-leaf-by (Some l) form ns f stack seen s' ws sofar says w h o e = leaf-stands l form ns f stack seen s' ws sofar says w h o e
+leaf-by : (q : Option ALeaf) (form : Form) (ns : List ℤ) (f : Place) (stack : List Open) (seen : Option Bool) (s' : State) (ws base sofar : List (List ℕ)) → Tells q form ns
+    → ws ≡ base ++ sofar → StackWords stack base → sofar ≡ spelled (lead (Closing form)) ns → Opens seen stack → with_leaf q f stack seen ≡ Ok s' → Stands s' ws
+leaf-by None form ns f stack seen s' ws base sofar says w u h o e = cc e
+leaf-by (Some l) form ns f stack seen s' ws base sofar says w u h o e = leaf-stands l form ns f stack seen s' ws base sofar says w u h o e
 
 -- ---- inside a part
 
@@ -348,30 +376,32 @@ opening-any Union ns = refl
 opening-any Meet ns = refl
 opening-any Cut ns = refl
 
-ended-stands : (p : Part) (ns : List ℤ) (f : Place) (stack : List Open) (seen : Option Bool) (s' : State) (ws sofar : List (List ℕ)) → Room p (length stack) → Inside p [] ns sofar
-    → ws ≡ stack_words stack ++ sofar → Opens seen stack → ended_part p ns f stack seen ≡ Ok s' → Stands s' ws
-ended-stands (Opening op) ns f stack seen s' ws sofar r i w o e =
+ended-stands : (p : Part) (ns : List ℤ) (f : Place) (stack : List Open) (seen : Option Bool) (s' : State) (ws base sofar : List (List ℕ)) → Room p (length stack) → Inside p [] ns sofar
+    → ws ≡ base ++ sofar → StackWords stack base → Opens seen stack → ended_part p ns f stack seen ≡ Ok s' → Stands s' ws
+ended-stands (Opening op) ns f stack seen s' ws base sofar r i w u o e =
     let came : i.came ≡ lead (Opening op) = sym (append-nil i.came) ∙ i.joined in
     let words_are : sofar ≡ opening op = i.words_are ∙ ap (λ bs. spelled bs ns) came ∙ opening-any op ns in
     along (record { stack = (record { op = op; kids = [] }) ∷ stack; seen = seen; at = node }) s' ws e (record {
+      base = base ++ (opening op ++ []);
       sofar = [];
-      all = w ∙ ap (λ l. stack_words stack ++ l) (words_are ∙ sym (append-nil (opening op))) ∙ sym (append-nil (stack_words stack ++ (opening op ++ [])));
+      all = w ∙ ap (λ l. base ++ l) (words_are ∙ sym (append-nil (opening op))) ∙ sym (append-nil (base ++ (opening op ++ [])));
+      under = (base, [], u, refl, refl);
       opens = (no-fine seen (length stack) r, o);
       here = refl;
     })
-ended-stands Moved ns f stack seen s' ws sofar r i w o e =
-    along (record { stack = stack; seen = seen; at = inside Moved [] ns f }) s' ws e (record { sofar = sofar; all = w; opens = o; here = (tt, i) })
-ended-stands Placed ns f stack seen s' ws sofar r i w o e =
-    along (record { stack = stack; seen = seen; at = inside Placed [] ns f }) s' ws e (record { sofar = sofar; all = w; opens = o; here = (tt, i) })
-ended-stands (Closing form) ns f stack seen s' ws sofar r i w o e =
+ended-stands Moved ns f stack seen s' ws base sofar r i w u o e =
+    along (record { stack = stack; seen = seen; at = inside Moved [] ns f }) s' ws e (record { base = base; sofar = sofar; all = w; under = u; opens = o; here = (tt, i) })
+ended-stands Placed ns f stack seen s' ws base sofar r i w u o e =
+    along (record { stack = stack; seen = seen; at = inside Placed [] ns f }) s' ws e (record { base = base; sofar = sofar; all = w; under = u; opens = o; here = (tt, i) })
+ended-stands (Closing form) ns f stack seen s' ws base sofar r i w u o e =
     let came : i.came ≡ lead (Closing form) = sym (append-nil i.came) ∙ i.joined in
-    leaf-by (leaf_of form ns) form ns f stack seen s' ws sofar (leaf_tells form ns) w (i.words_are ∙ ap (λ bs. spelled bs ns) came) o e
+    leaf-by (leaf_of form ns) form ns f stack seen s' ws base sofar (leaf_tells form ns) w u (i.words_are ∙ ap (λ bs. spelled bs ns) came) o e
 
-passed-stands : (p : Part) (wants : List ℕ) (ns : List ℤ) (f : Place) (stack : List Open) (seen : Option Bool) (s' : State) (ws sofar : List (List ℕ)) → Room p (length stack) → Inside p wants ns sofar
-    → ws ≡ stack_words stack ++ sofar → Opens seen stack → passed p wants ns f stack seen ≡ Ok s' → Stands s' ws
-passed-stands p [] ns f stack seen s' ws sofar r i w o e = ended-stands p ns f stack seen s' ws sofar r i w o e
-passed-stands p (b ∷ wants) ns f stack seen s' ws sofar r i w o e =
-    along (record { stack = stack; seen = seen; at = inside p (b ∷ wants) ns f }) s' ws e (record { sofar = sofar; all = w; opens = o; here = (r, i) })
+passed-stands : (p : Part) (wants : List ℕ) (ns : List ℤ) (f : Place) (stack : List Open) (seen : Option Bool) (s' : State) (ws base sofar : List (List ℕ)) → Room p (length stack) → Inside p wants ns sofar
+    → ws ≡ base ++ sofar → StackWords stack base → Opens seen stack → passed p wants ns f stack seen ≡ Ok s' → Stands s' ws
+passed-stands p [] ns f stack seen s' ws base sofar r i w u o e = ended-stands p ns f stack seen s' ws base sofar r i w u o e
+passed-stands p (b ∷ wants) ns f stack seen s' ws base sofar r i w u o e =
+    along (record { stack = stack; seen = seen; at = inside p (b ∷ wants) ns f }) s' ws e (record { base = base; sofar = sofar; all = w; under = u; opens = o; here = (r, i) })
 
 moved-on : (p : Part) (b : ℕ) (wants came : List ℕ) → came ++ (b ∷ wants) ≡ lead p → (came ++ b ∷ []) ++ wants ≡ lead p
 moved-on p b wants came e = append_assoc came (b ∷ []) wants ∙ e
@@ -459,65 +489,66 @@ shape-inside Placed Disc ns sofar w e i = absurd e
 shape-inside (Opening op) form ns sofar w e i = absurd e
 shape-inside (Closing g) form ns sofar w e i = absurd e
 
-longer : (stack : List Open) (ws sofar : List (List ℕ)) (w : List ℕ) → ws ≡ stack_words stack ++ sofar → ws ++ w ∷ [] ≡ stack_words stack ++ (sofar ++ w ∷ [])
-longer stack ws sofar w e = ap (λ l. l ++ w ∷ []) e ∙ append_assoc (stack_words stack) sofar (w ∷ [])
+longer : (ws base sofar : List (List ℕ)) (w : List ℕ) → ws ≡ base ++ sofar → ws ++ w ∷ [] ≡ base ++ (sofar ++ w ∷ [])
+longer ws base sofar w e = ap (λ l. l ++ w ∷ []) e ∙ append_assoc base sofar (w ∷ [])
 
-shape-stands : (q : Option Form) (p : Part) (ns : List ℤ) (f : Place) (stack : List Open) (seen : Option Bool) (t : AToken) (s' : State) (ws sofar : List (List ℕ)) → chosen p t.text ≡ q
-    → Inside p [] ns sofar → ws ≡ stack_words stack ++ sofar → Opens seen stack → at_shape q ns f stack seen t ≡ Ok s' → Stands s' (ws ++ t.text ∷ [])
-shape-stands None p ns f stack seen t s' ws sofar h i w o e = cc e
-shape-stands (Some form) p ns f stack seen t s' ws sofar h i w o e =
+shape-stands : (q : Option Form) (p : Part) (ns : List ℤ) (f : Place) (stack : List Open) (seen : Option Bool) (t : AToken) (s' : State) (ws base sofar : List (List ℕ)) → chosen p t.text ≡ q
+    → Inside p [] ns sofar → ws ≡ base ++ sofar → StackWords stack base → Opens seen stack → at_shape q ns f stack seen t ≡ Ok s' → Stands s' (ws ++ t.text ∷ [])
+shape-stands None p ns f stack seen t s' ws base sofar h i w u o e = cc e
+shape-stands (Some form) p ns f stack seen t s' ws base sofar h i w u o e =
     along (record { stack = stack; seen = seen; at = inside (Closing form) (pattern (Closing form)) ns f }) s' (ws ++ t.text ∷ []) e
-    (record { sofar = sofar ++ t.text ∷ []; all = longer stack ws sofar t.text w; opens = o; here = (tt, shape-inside p form ns sofar t.text (shaped p t.text form h) i) })
+    (record { base = base; sofar = sofar ++ t.text ∷ []; all = longer ws base sofar t.text w; under = u; opens = o; here = (tt, shape-inside p form ns sofar t.text (shaped p t.text form h) i) })
 
-number-stands : (q : Option ℤ) (p : Part) (b : ℕ) (wants : List ℕ) (ns : List ℤ) (f : Place) (stack : List Open) (seen : Option Bool) (t : AToken) (s' : State) (ws sofar : List (List ℕ)) → value_of t.text ≡ q
-    → is_number_place b ≡ true → Room p (length stack) → Inside p (b ∷ wants) ns sofar → ws ≡ stack_words stack ++ sofar → Opens seen stack → at_number q p wants ns f stack seen t ≡ Ok s'
+number-stands : (q : Option ℤ) (p : Part) (b : ℕ) (wants : List ℕ) (ns : List ℤ) (f : Place) (stack : List Open) (seen : Option Bool) (t : AToken) (s' : State) (ws base sofar : List (List ℕ)) → value_of t.text ≡ q
+    → is_number_place b ≡ true → Room p (length stack) → Inside p (b ∷ wants) ns sofar → ws ≡ base ++ sofar → StackWords stack base → Opens seen stack → at_number q p wants ns f stack seen t ≡ Ok s'
     → Stands s' (ws ++ t.text ∷ [])
-number-stands None p b wants ns f stack seen t s' ws sofar h n r i w o e = cc e
-number-stands (Some z) p b wants ns f stack seen t s' ws sofar h n r i w o e =
-    passed-stands p wants (ns ++ z ∷ []) f stack seen s' (ws ++ t.text ∷ []) (sofar ++ t.text ∷ []) r (number-inside p b wants ns sofar t.text z n (value-is t.text z h) i) (longer stack ws sofar t.text w) o e
+number-stands None p b wants ns f stack seen t s' ws base sofar h n r i w u o e = cc e
+number-stands (Some z) p b wants ns f stack seen t s' ws base sofar h n r i w u o e =
+    passed-stands p wants (ns ++ z ∷ []) f stack seen s' (ws ++ t.text ∷ []) base (sofar ++ t.text ∷ []) r (number-inside p b wants ns sofar t.text z n (value-is t.text z h) i) (longer ws base sofar t.text w) u o e
 
-want-stands : (p : Part) (wants : List ℕ) (ns : List ℤ) (f : Place) (stack : List Open) (seen : Option Bool) (t : AToken) (s' : State) (ws sofar : List (List ℕ)) → Room p (length stack) → Inside p wants ns sofar
-    → ws ≡ stack_words stack ++ sofar → Opens seen stack → at_want p wants ns f stack seen t ≡ Ok s' → Stands s' (ws ++ t.text ∷ [])
-want-stands p [] ns f stack seen t s' ws sofar r i w o e = shape-stands (chosen p t.text) p ns f stack seen t s' ws sofar refl i w o e
-want-stands p (b ∷ wants) ns f stack seen t s' ws sofar r i w o e =
+want-stands : (p : Part) (wants : List ℕ) (ns : List ℤ) (f : Place) (stack : List Open) (seen : Option Bool) (t : AToken) (s' : State) (ws base sofar : List (List ℕ)) → Room p (length stack) → Inside p wants ns sofar
+    → ws ≡ base ++ sofar → StackWords stack base → Opens seen stack → at_want p wants ns f stack seen t ≡ Ok s' → Stands s' (ws ++ t.text ∷ [])
+want-stands p [] ns f stack seen t s' ws base sofar r i w u o e = shape-stands (chosen p t.text) p ns f stack seen t s' ws base sofar refl i w u o e
+want-stands p (b ∷ wants) ns f stack seen t s' ws base sofar r i w u o e =
     elim (either_is (is_number_place b) _ _ (Ok s') e) [
       | inl h ↦ elim (either_is (is_numeral t.text) _ _ (Ok s') h.1) [
-        | inl k ↦ number-stands (value_of t.text) p b wants ns f stack seen t s' ws sofar refl h.0 r i w o k.1
+        | inl k ↦ number-stands (value_of t.text) p b wants ns f stack seen t s' ws base sofar refl h.0 r i w u o k.1
         | inr k ↦ cc k.1
       ]
       | inr h ↦ elim (either_is (bytes_eq t.text (word_of b)) _ _ (Ok s') h.1) [
-        | inl k ↦ passed-stands p wants ns f stack seen s' (ws ++ t.text ∷ []) (sofar ++ t.text ∷ []) r (word-inside p b wants ns sofar t.text h.0 (same_text t.text _ k.0) i) (longer stack ws sofar t.text w) o k.1
+        | inl k ↦ passed-stands p wants ns f stack seen s' (ws ++ t.text ∷ []) base (sofar ++ t.text ∷ []) r (word-inside p b wants ns sofar t.text h.0 (same_text t.text _ k.0) i) (longer ws base sofar t.text w) u o k.1
         | inr k ↦ cc k.1
       ]
     ]
 
 -- ---- whole texts
 
-step-stands : (at : At) (stack : List Open) (seen : Option Bool) (t : AToken) (s' : State) (ws sofar : List (List ℕ)) → ws ≡ stack_words stack ++ sofar → Opens seen stack → StandsAt stack seen at sofar
+step-stands : (at : At) (stack : List Open) (seen : Option Bool) (t : AToken) (s' : State) (ws base sofar : List (List ℕ)) → ws ≡ base ++ sofar → StackWords stack base → Opens seen stack → StandsAt stack seen at sofar
     → step_at at stack seen t ≡ Ok s' → Stands s' (ws ++ t.text ∷ [])
-step-stands node stack seen t s' ws sofar w o h e = node-stands (begins t.text) stack seen t s' ws refl (w ∙ ap (λ l. stack_words stack ++ l) h) o e
-step-stands (inside p wants ns f) stack seen t s' ws sofar w o h e = want-stands p wants ns f stack seen t s' ws sofar h.0 h.1 w o e
-step-stands (whole x) stack seen t s' ws sofar w o h e = cc e
+step-stands node stack seen t s' ws base sofar w u o h e = node-stands (begins t.text) stack seen t s' ws base refl (w ∙ ap (λ l. base ++ l) h) u o e
+step-stands (inside p wants ns f) stack seen t s' ws base sofar w u o h e = want-stands p wants ns f stack seen t s' ws base sofar h.0 h.1 w u o e
+step-stands (whole x) stack seen t s' ws base sofar w u o h e = cc e
 
 -- from the start on
 pub at-start : Stands start []
-at-start = record { sofar = []; all = refl; opens = tt; here = refl }
+at-start = record { base = []; sofar = []; all = refl; under = refl; opens = tt; here = refl }
 
 pub stands-on : (s : State) (t : AToken) (s' : State) (ws : List (List ℕ)) → Stands s ws → step s t ≡ Ok s' → Stands s' (ws ++ t.text ∷ [])
-stands-on s t s' ws h e = step-stands s.at s.stack s.seen t s' ws h.sofar h.all h.opens h.here e
+stands-on s t s' ws h e = step-stands s.at s.stack s.seen t s' ws h.base h.sofar h.all h.under h.opens h.here e
 
 record Whole (t : Tree) (ws : List (List ℕ)) : Type 0 where
-  words_are : words (shape t) ≡ ws
+  words_are : IsWords (shape t) ws
   seen : Option Bool
   fine : Fine seen 0 (shape t)
 
-end-whole : (e : ℕ) (at : At) (n : ℕ) (stack : List Open) (seen : Option Bool) (t : Tree) (ws sofar : List (List ℕ)) → ws ≡ stack_words stack ++ sofar → StandsAt stack seen at sofar → finish e at n ≡ Ok t → Whole t ws
-end-whole e node n stack seen t ws sofar w h f = cc f
-end-whole e (inside p wants ns g) n stack seen t ws sofar w h f = cc f
-end-whole e (whole x) n stack seen t ws sofar w h f =
+end-whole : (e : ℕ) (at : At) (n : ℕ) (stack : List Open) (seen : Option Bool) (t : Tree) (ws base sofar : List (List ℕ)) → ws ≡ base ++ sofar → StackWords stack base → StandsAt stack seen at sofar → finish e at n ≡ Ok t → Whole t ws
+end-whole e node n stack seen t ws base sofar w u h f = cc f
+end-whole e (inside p wants ns g) n stack seen t ws base sofar w u h f = cc f
+end-whole e (whole x) n stack seen t ws base sofar w u h f =
     let same : x ≡ t = cc f in
-    let bare : ws ≡ sofar = w ∙ ap (λ l. stack_words l ++ sofar) h.0 in
-    record { words_are = sym (bare ∙ h.1 ∙ ap (λ x. words (shape x)) same); seen = seen; fine = subst (λ x. Fine seen 0 (shape x)) same h.2 }
+    let none_open : base ≡ [] = subst (λ st. StackWords st base) h.0 u in
+    let bare : ws ≡ sofar = w ∙ ap (λ l. l ++ sofar) none_open in
+    record { words_are = subst (λ x. IsWords (shape x) ws) same (subst (IsWords (shape x)) (sym bare) h.1); seen = seen; fine = subst (λ x. Fine seen 0 (shape x)) same h.2 }
 
 bind_ok : (r : Result State CsgFault) (f : State → Result Tree CsgFault) (t : Tree) → (r >>= f) ≡ Ok t → (s : State) × (r ≡ Ok s) × (f s ≡ Ok t)
 bind_ok (Ok s) f t e = (s, refl, e)
@@ -530,7 +561,7 @@ record Read (t : Tree) (st : Stream) (ws : List (List ℕ)) : Type 0 where
 
 run-stands : (e : ℕ) (s : State) (st : Stream) (t : Tree) (ws : List (List ℕ)) → Stands s ws → run e s st ≡ Ok t → Read t st ws
 run-stands e s (ended n) t ws h r =
-    let w = end-whole e s.at n s.stack s.seen t ws h.sofar h.all h.here r in
+    let w = end-whole e s.at n s.stack s.seen t ws h.base h.sofar h.all h.under h.here r in
     record { us = []; rest = refl; whole_is = subst (Whole t) (sym (append-nil ws)) w }
 run-stands e s (broken line n) t ws h r = cc r
 run-stands e s (token a rest) t ws h r =
@@ -548,7 +579,7 @@ kind-of (Some false) s h = inl (all-map (λ l k. k.1) s h)
 pub record Reached (t : Tree) (st : Stream) (ws : List (List ℕ)) : Type 0 where
   pub us : List (List ℕ)
   pub rest : texts st ≡ Some us
-  pub words_are : words (shape t) ≡ ws ++ us
+  pub words_are : IsWords (shape t) (ws ++ us)
   pub allowed : IsAllowed (shape t)
 
 pub reached : (e : ℕ) (s : State) (st : Stream) (t : Tree) (ws : List (List ℕ)) → Stands s ws → run e s st ≡ Ok t → Reached t st ws
@@ -572,7 +603,7 @@ reached e s st t ws h r =
 pub read_is_spelled : ReadIsSpelled
 read_is_spelled text t e =
     let m = reached (end_line text) start (stream text) t [] at-start e in
-    record { tokens = sym (stream_is_tokens text) ∙ m.rest ∙ ap (λ ws. Some ws) (sym m.words_are); allowed = m.allowed }
+    record { words = m.us; tokens = sym (stream_is_tokens text) ∙ m.rest; spelled = m.words_are; allowed = m.allowed }
 
 pub reads : (text : List ℕ) (r : Result Tree CsgFault) → Gives r (reading_of text) → Reads r text
 reads text (Ok t) g = read_is_spelled text t g

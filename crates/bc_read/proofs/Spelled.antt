@@ -8,11 +8,6 @@ use Rattle.std.specs.Fmt.{signed_decimal}
 use Rattle.bc_algebra.specs.Within.{IsWithin}
 use Rattle.bc_num.specs.Tokens.{cons}
 use Rattle.bc_num.specs.declared.v3.V3.{V3}
-use Rattle.bc_num.specs.declared.disc2.Disc2.{Disc2}
-use Rattle.bc_num.specs.declared.box2.Box2.{Box2}
-use Rattle.bc_num.specs.declared.box3.Box3.{Box3}
-use Rattle.bc_tree.specs.declared.frame.Frame2.{Frame2}
-use Rattle.bc_tree.specs.declared.frame.Frame3.{Frame3}
 use Rattle.bc_tree.specs.Decided.{is_solid_leaf}
 use Rattle.bc_tree.specs.declared.tree.Leaf.{Leaf as ALeaf}
 use Rattle.bc_tree.specs.declared.tree.Leaf.TheVariants as leaves
@@ -20,7 +15,9 @@ use Rattle.bc_tree.specs.declared.tree.Tree.{Tree}
 use Rattle.bc_tree.specs.declared.tree.Tree.TheVariants as trees
 use Rattle.bc_tree.specs.Leaves.{IsBetween, IsLeaf, IsFlat, IsSolid, u_at, v_at, u_of, v_of, normal_of}
 use Rattle.bc_tree.specs.Shape.{Shape, leaf, union, meet, cut, Shapes, none, child, shape, shapes, depth, depths, AllLeaves, EachLeaf}
-use Rattle.bc_tree.specs.Words.{words, words_all}
+use Rattle.bc_tree.specs.Axis.{IsAxis, corner_at, side_at}
+use Rattle.bc_tree.specs.Words.{long_words, short_words, IsLeafWords, IsWords, AreWords}
+use Rattle.bc_tree.proofs.OneTree.{corner_near, side_near}
 use Rattle.bc_tree.specs.Spells.{HasChild, AllMeetsMeet, EachMeetMeets, Spells}
 use Rattle.bc_lex.specs.Tokens.{AToken}
 use Rattle.bc_lex.specs.Stream.{Stream, ended, broken, token, texts, stream}
@@ -36,10 +33,11 @@ use Rattle.bc_read.specs.declared.fault.CsgFault.{CsgFault}
 use Rattle.bc_read.specs.declared.fault.CsgFault.TheVariants.{BadShape, Mixed, TooDeep}
 use Rattle.bc_read.specs.Table.{pattern, is_number_place, word_of}
 use Rattle.bc_read.specs.Numbers.{is_numeral, value_of}
-use Rattle.bc_read.specs.Leaves.{form_of, numbers_of, leaf_of}
+use Rattle.bc_read.specs.declared.part.Form.{Form}
+use Rattle.bc_read.specs.Leaves.{form_of, numbers_of, short_numbers, Says, leaf_of}
 use Rattle.bc_read.specs.Machine.{node, inside, State, add, tree_of_kids, closed, place_of, mixes, with_leaf, ended_part, passed, at_number, step, run, reading_of, end_line, ◌>>=◌}
 use Rattle.bc_read.specs.Laws.{SpelledIsRead, FaultSpellsNone, HasOneFault}
-use Rattle.bc_read.proofs.LeafTests.{told}
+use Rattle.bc_read.proofs.ShortTests.{told}
 use Rattle.bc_read.proofs.NumberLaws.{is-value, is-numeral}
 use Rattle.bc_read.proofs.Patterns.{word_at, plain, plain-here, head_word, spelled, places}
 use Rattle.bc_read.proofs.Seen.{shape-Leaf, shape-Union, shape-Meet, shape-Cut, KindOf, IsOk}
@@ -242,99 +240,178 @@ near-append [] ys h k = k
 near-append (x ∷ xs) ys h k = (h.0, near-append xs ys h.1 k)
 
 -- all numbers of a leaf
-pub numbers-near : (l : ALeaf) → IsLeaf l → Near (numbers_of l)
+numbers-near : (l : ALeaf) → IsLeaf l → Near (numbers_of l)
 numbers-near (leaves.Slab f) h = near-append (first (leaves.Slab f)) (last (leaves.Slab f)) (first-near (leaves.Slab f) h) (last-near (leaves.Slab f) h)
 numbers-near (leaves.Strip f) h = near-append (first (leaves.Strip f)) (last (leaves.Strip f)) (first-near (leaves.Strip f) h) (last-near (leaves.Strip f) h)
 numbers-near (leaves.Disc d) h = near-append (first (leaves.Disc d)) (last (leaves.Disc d)) (first-near (leaves.Disc d) h) (last-near (leaves.Disc d) h)
 numbers-near (leaves.Block b) h = near-append (first (leaves.Block b)) (last (leaves.Block b)) (first-near (leaves.Block b) h) (last-near (leaves.Block b) h)
 numbers-near (leaves.Tile b) h = near-append (first (leaves.Tile b)) (last (leaves.Tile b)) (first-near (leaves.Tile b) h) (last-near (leaves.Tile b) h)
 
--- the end of a leaf
-pub leaf-ends : (l : ALeaf) (f : Place) (stack : List Open) (seen : Option Bool) → IsLeaf l → mixes seen (is_solid_leaf l) ≡ false
-    → with_leaf (leaf_of (form_of l) (numbers_of l)) f stack seen ≡ Ok (add (trees.Leaf l) stack (Some (is_solid_leaf l)))
-leaf-ends l f stack seen h m =
-    ap (λ o. with_leaf o f stack seen) (told (form_of l) (numbers_of l) l (record { form_is = refl; numbers = refl; in_range = h }))
-    ∙ ap (λ c. if c then Err (Mixed f.line f.token) else Ok (add (trees.Leaf l) stack (Some (is_solid_leaf l)))) m
+-- the same of the short form of an axis leaf
+abbrev short_first : ALeaf → List ℤ
+short_first (leaves.Slab f) = corner_at f.o.x f.n.x ∷ corner_at f.o.y f.n.y ∷ corner_at f.o.z f.n.z ∷ []
+short_first (leaves.Strip f) = let n = normal_of f.u in corner_at f.o.x n.x ∷ corner_at f.o.y n.y ∷ pos 0 ∷ []
+short_first l = []
+
+abbrev short_last : ALeaf → List ℤ
+short_last (leaves.Slab f) = side_at f.n.x ∷ side_at f.n.y ∷ side_at f.n.z ∷ []
+short_last (leaves.Strip f) = let n = normal_of f.u in side_at n.x ∷ side_at n.y ∷ []
+short_last l = []
+
+corner-near : (o n : ℤ) → IsWithin 1023 o → IsWithin 8388607 (corner_at o n)
+corner-near o n h = wider 9215 (corner_at o n) (omega arith) (corner_near o n h)
+
+side-near : (n : ℤ) → IsWithin 8388607 (side_at n)
+side-near n = wider 16384 (side_at n) (omega arith) (side_near n)
+
+short-first-near : (l : ALeaf) → IsLeaf l → Near (short_first l)
+short-first-near (leaves.Slab f) h = (corner-near f.o.x f.n.x h.origin_x, (corner-near f.o.y f.n.y h.origin_y, (corner-near f.o.z f.n.z h.origin_z, tt)))
+short-first-near (leaves.Strip f) h = (corner-near f.o.x (neg_ℤ f.u.y) h.origin_x, (corner-near f.o.y f.u.x h.origin_y, (near-0, tt)))
+short-first-near (leaves.Disc d) h = tt
+short-first-near (leaves.Block b) h = tt
+short-first-near (leaves.Tile b) h = tt
+
+short-last-near : (l : ALeaf) → Near (short_last l)
+short-last-near (leaves.Slab f) = (side-near f.n.x, (side-near f.n.y, (side-near f.n.z, tt)))
+short-last-near (leaves.Strip f) = (side-near (neg_ℤ f.u.y), (side-near f.u.x, tt))
+short-last-near (leaves.Disc d) = tt
+short-last-near (leaves.Block b) = tt
+short-last-near (leaves.Tile b) = tt
+
+short-near : (l : ALeaf) → IsAxis l → IsLeaf l → Near (short_numbers l)
+short-near (leaves.Slab f) a h = near-append (short_first (leaves.Slab f)) (short_last (leaves.Slab f)) (short-first-near (leaves.Slab f) h) (short-last-near (leaves.Slab f))
+short-near (leaves.Strip f) a h = near-append (short_first (leaves.Strip f)) (short_last (leaves.Strip f)) (short-first-near (leaves.Strip f) h) (short-last-near (leaves.Strip f))
+short-near (leaves.Disc d) a h = absurd a
+short-near (leaves.Block b) a h = absurd a
+short-near (leaves.Tile b) a h = absurd a
+
+pub says-near : (form : Form) (ns : List ℤ) (l : ALeaf) → Says form ns l → Near ns
+says-near form ns l (inl s) = subst Near (sym s.numbers) (numbers-near l s.in_range)
+says-near form ns l (inr s) = subst Near (sym s.numbers) (short-near l s.axis s.in_range)
 
 abbrev pub Ends : ALeaf → List Open → Option Bool → State
 Ends l stack seen = add (trees.Leaf l) stack (Some (is_solid_leaf l))
 
+-- the end of a leaf
+pub leaf-ends : (l : ALeaf) (form : Form) (ns : List ℤ) (f : Place) (stack : List Open) (seen : Option Bool) → Says form ns l → mixes seen (is_solid_leaf l) ≡ false
+    → with_leaf (leaf_of form ns) f stack seen ≡ Ok (Ends l stack seen)
+leaf-ends l form ns f stack seen h m =
+    ap (λ o. with_leaf o f stack seen) (told form ns l h)
+    ∙ ap (λ c. if c then Err (Mixed f.line f.token) else Ok (Ends l stack seen)) m
+
 -- behind a leaf's first name
 abbrev Goes : ALeaf → Part → List (List ℕ) → Type 0
 Goes l p tail =
-    (f : Place) (stack : List Open) (seen : Option Bool) → IsLeaf l → mixes seen (is_solid_leaf l) ≡ false → (e : ℕ) (st : Stream) (more : List (List ℕ)) → Comes st (tail ++ more)
+    (f : Place) (stack : List Open) (seen : Option Bool) → mixes seen (is_solid_leaf l) ≡ false → (e : ℕ) (st : Stream) (more : List (List ℕ)) → Comes st (tail ++ more)
     → To e (ins p (pattern p) [] f stack seen) st more (Ends l stack seen)
 
 -- the name of a shape, and what stands behind it
-shape-to : (l : ALeaf) (p : Part) (name : List ℕ) (b : ℕ) (wants : List ℕ) (fs ls : List ℤ) (f : Place) (stack : List Open) (seen : Option Bool) → pattern (Closing (form_of l)) ≡ b ∷ wants
-    → ((t : AToken) → t.text ≡ name → step (ins p [] fs f stack seen) t ≡ Ok (ins (Closing (form_of l)) (b ∷ wants) fs f stack seen)) → fs ++ ls ≡ numbers_of l → Near ls → length ls ≡ places (b ∷ wants)
-    → plain (b ∷ wants) ≡ true → IsLeaf l → mixes seen (is_solid_leaf l) ≡ false → (e : ℕ) (st : Stream) (more : List (List ℕ)) → Comes st (name ∷ (spelled (b ∷ wants) ls ++ more))
+shape-to : (l : ALeaf) (form : Form) (p : Part) (name : List ℕ) (b : ℕ) (wants : List ℕ) (fs ls : List ℤ) (f : Place) (stack : List Open) (seen : Option Bool)
+    → ((t : AToken) → t.text ≡ name → step (ins p [] fs f stack seen) t ≡ Ok (ins (Closing form) (b ∷ wants) fs f stack seen)) → Says form (fs ++ ls) l → Near ls → length ls ≡ places (b ∷ wants)
+    → plain (b ∷ wants) ≡ true → mixes seen (is_solid_leaf l) ≡ false → (e : ℕ) (st : Stream) (more : List (List ℕ)) → Comes st (name ∷ (spelled (b ∷ wants) ls ++ more))
     → To e (ins p [] fs f stack seen) st more (Ends l stack seen)
-shape-to l p name b wants fs ls f stack seen pat named joined near count q h m e st more r =
-    let a = one e (ins p [] fs f stack seen) (ins (Closing (form_of l)) (b ∷ wants) fs f stack seen) name (spelled (b ∷ wants) ls ++ more) st named r in
-    onward a (pattern-to (Closing (form_of l)) b wants fs ls f stack seen (Ends l stack seen) near count q (ap (λ ns. with_leaf (leaf_of (form_of l) ns) f stack seen) joined ∙ leaf-ends l f stack seen h m) e a.rest more a.left)
+shape-to l form p name b wants fs ls f stack seen named says near count q m e st more r =
+    let a = one e (ins p [] fs f stack seen) (ins (Closing form) (b ∷ wants) fs f stack seen) name (spelled (b ∷ wants) ls ++ more) st named r in
+    onward a (pattern-to (Closing form) b wants fs ls f stack seen (Ends l stack seen) near count q (leaf-ends l form (fs ++ ls) f stack seen says m) e a.rest more a.left)
 
 regroup : (a b more : List (List ℕ)) (st : Stream) → Comes st ((a ++ b) ++ more) → Comes st (a ++ (b ++ more))
 regroup a b more st r = subst (Comes st) (append_assoc a b more) r
 
-goes-Slab : (f : Frame3) → Goes (leaves.Slab f) Placed (spelled (pattern Placed) (first (leaves.Slab f)) ++ (codes "cube" ∷ spelled (pattern (Closing Slab)) (last (leaves.Slab f))))
-goes-Slab f g stack seen h m e st more r =
-    let a = pattern-to Placed 40 (drop 1 (pattern Placed)) [] (first (leaves.Slab f)) g stack seen (ins Placed [] (first (leaves.Slab f)) g stack seen) (first-near (leaves.Slab f) h) refl refl refl e st ((codes "cube" ∷ spelled (pattern (Closing Slab)) (last (leaves.Slab f))) ++ more)
-    (regroup (spelled (pattern Placed) (first (leaves.Slab f))) (codes "cube" ∷ spelled (pattern (Closing Slab)) (last (leaves.Slab f))) more st r) in
-    onward a (shape-to (leaves.Slab f) Placed (codes "cube") 40 (drop 1 (pattern (Closing Slab))) (first (leaves.Slab f)) (last (leaves.Slab f)) g stack seen refl (λ t x. ap (λ w. step (ins Placed [] (first (leaves.Slab f)) g stack seen) (record t { text = w })) x) refl (last-near (leaves.Slab f) h) refl refl h m e a.rest more a.left)
+goes-Slab : (l : ALeaf) (fs ls : List ℤ) → Says Slab (fs ++ ls) l → Near fs → Near ls → length fs ≡ 19 → length ls ≡ 3
+    → Goes l Placed (spelled (pattern Placed) fs ++ (codes "cube" ∷ spelled (pattern (Closing Slab)) ls))
+goes-Slab l fs ls says nf nl cf cl f stack seen m e st more r =
+    let a = pattern-to Placed 40 (drop 1 (pattern Placed)) [] fs f stack seen (ins Placed [] fs f stack seen) nf cf refl refl e st ((codes "cube" ∷ spelled (pattern (Closing Slab)) ls) ++ more)
+    (regroup (spelled (pattern Placed) fs) (codes "cube" ∷ spelled (pattern (Closing Slab)) ls) more st r) in
+    onward a (shape-to l Slab Placed (codes "cube") 40 (drop 1 (pattern (Closing Slab))) fs ls f stack seen (λ t x. ap (λ w. step (ins Placed [] fs f stack seen) (record t { text = w })) x) says nl cl refl m e a.rest more a.left)
 
-goes-Strip : (f : Frame2) → Goes (leaves.Strip f) Placed (spelled (pattern Placed) (first (leaves.Strip f)) ++ (codes "square" ∷ spelled (pattern (Closing Strip)) (last (leaves.Strip f))))
-goes-Strip f g stack seen h m e st more r =
-    let a = pattern-to Placed 40 (drop 1 (pattern Placed)) [] (first (leaves.Strip f)) g stack seen (ins Placed [] (first (leaves.Strip f)) g stack seen) (first-near (leaves.Strip f) h) refl refl refl e st ((codes "square" ∷ spelled (pattern (Closing Strip)) (last (leaves.Strip f))) ++ more)
-    (regroup (spelled (pattern Placed) (first (leaves.Strip f))) (codes "square" ∷ spelled (pattern (Closing Strip)) (last (leaves.Strip f))) more st r) in
-    onward a (shape-to (leaves.Strip f) Placed (codes "square") 40 (drop 1 (pattern (Closing Strip))) (first (leaves.Strip f)) (last (leaves.Strip f)) g stack seen refl (λ t x. ap (λ w. step (ins Placed [] (first (leaves.Strip f)) g stack seen) (record t { text = w })) x) refl (last-near (leaves.Strip f) h) refl refl h m e a.rest more a.left)
+goes-Strip : (l : ALeaf) (fs ls : List ℤ) → Says Strip (fs ++ ls) l → Near fs → Near ls → length fs ≡ 19 → length ls ≡ 2
+    → Goes l Placed (spelled (pattern Placed) fs ++ (codes "square" ∷ spelled (pattern (Closing Strip)) ls))
+goes-Strip l fs ls says nf nl cf cl f stack seen m e st more r =
+    let a = pattern-to Placed 40 (drop 1 (pattern Placed)) [] fs f stack seen (ins Placed [] fs f stack seen) nf cf refl refl e st ((codes "square" ∷ spelled (pattern (Closing Strip)) ls) ++ more)
+    (regroup (spelled (pattern Placed) fs) (codes "square" ∷ spelled (pattern (Closing Strip)) ls) more st r) in
+    onward a (shape-to l Strip Placed (codes "square") 40 (drop 1 (pattern (Closing Strip))) fs ls f stack seen (λ t x. ap (λ w. step (ins Placed [] fs f stack seen) (record t { text = w })) x) says nl cl refl m e a.rest more a.left)
 
-goes-Disc : (d : Disc2) → Goes (leaves.Disc d) Moved (spelled (pattern Moved) (first (leaves.Disc d)) ++ (codes "circle" ∷ spelled (pattern (Closing Disc)) (last (leaves.Disc d))))
-goes-Disc d f stack seen h m e st more r =
-    let a = pattern-to Moved 40 (drop 1 (pattern Moved)) [] (first (leaves.Disc d)) f stack seen (ins Moved [] (first (leaves.Disc d)) f stack seen) (first-near (leaves.Disc d) h) refl refl refl e st ((codes "circle" ∷ spelled (pattern (Closing Disc)) (last (leaves.Disc d))) ++ more)
-    (regroup (spelled (pattern Moved) (first (leaves.Disc d))) (codes "circle" ∷ spelled (pattern (Closing Disc)) (last (leaves.Disc d))) more st r) in
-    onward a (shape-to (leaves.Disc d) Moved (codes "circle") 40 (drop 1 (pattern (Closing Disc))) (first (leaves.Disc d)) (last (leaves.Disc d)) f stack seen refl (λ t x. ap (λ w. step (ins Moved [] (first (leaves.Disc d)) f stack seen) (record t { text = w })) x) refl (last-near (leaves.Disc d) h) refl refl h m e a.rest more a.left)
+goes-Disc : (l : ALeaf) (fs ls : List ℤ) → Says Disc (fs ++ ls) l → Near fs → Near ls → length fs ≡ 3 → length ls ≡ 1
+    → Goes l Moved (spelled (pattern Moved) fs ++ (codes "circle" ∷ spelled (pattern (Closing Disc)) ls))
+goes-Disc l fs ls says nf nl cf cl f stack seen m e st more r =
+    let a = pattern-to Moved 40 (drop 1 (pattern Moved)) [] fs f stack seen (ins Moved [] fs f stack seen) nf cf refl refl e st ((codes "circle" ∷ spelled (pattern (Closing Disc)) ls) ++ more)
+    (regroup (spelled (pattern Moved) fs) (codes "circle" ∷ spelled (pattern (Closing Disc)) ls) more st r) in
+    onward a (shape-to l Disc Moved (codes "circle") 40 (drop 1 (pattern (Closing Disc))) fs ls f stack seen (λ t x. ap (λ w. step (ins Moved [] fs f stack seen) (record t { text = w })) x) says nl cl refl m e a.rest more a.left)
 
-goes-Block : (b : Box3) → Goes (leaves.Block b) Moved (spelled (pattern Moved) (first (leaves.Block b)) ++ (codes "cube" ∷ spelled (pattern (Closing Block)) (last (leaves.Block b))))
-goes-Block b f stack seen h m e st more r =
-    let a = pattern-to Moved 40 (drop 1 (pattern Moved)) [] (first (leaves.Block b)) f stack seen (ins Moved [] (first (leaves.Block b)) f stack seen) (first-near (leaves.Block b) h) refl refl refl e st ((codes "cube" ∷ spelled (pattern (Closing Block)) (last (leaves.Block b))) ++ more)
-    (regroup (spelled (pattern Moved) (first (leaves.Block b))) (codes "cube" ∷ spelled (pattern (Closing Block)) (last (leaves.Block b))) more st r) in
-    onward a (shape-to (leaves.Block b) Moved (codes "cube") 40 (drop 1 (pattern (Closing Block))) (first (leaves.Block b)) (last (leaves.Block b)) f stack seen refl (λ t x. ap (λ w. step (ins Moved [] (first (leaves.Block b)) f stack seen) (record t { text = w })) x) refl (last-near (leaves.Block b) h) refl refl h m e a.rest more a.left)
+goes-Block : (l : ALeaf) (fs ls : List ℤ) → Says Block (fs ++ ls) l → Near fs → Near ls → length fs ≡ 3 → length ls ≡ 3
+    → Goes l Moved (spelled (pattern Moved) fs ++ (codes "cube" ∷ spelled (pattern (Closing Block)) ls))
+goes-Block l fs ls says nf nl cf cl f stack seen m e st more r =
+    let a = pattern-to Moved 40 (drop 1 (pattern Moved)) [] fs f stack seen (ins Moved [] fs f stack seen) nf cf refl refl e st ((codes "cube" ∷ spelled (pattern (Closing Block)) ls) ++ more)
+    (regroup (spelled (pattern Moved) fs) (codes "cube" ∷ spelled (pattern (Closing Block)) ls) more st r) in
+    onward a (shape-to l Block Moved (codes "cube") 40 (drop 1 (pattern (Closing Block))) fs ls f stack seen (λ t x. ap (λ w. step (ins Moved [] fs f stack seen) (record t { text = w })) x) says nl cl refl m e a.rest more a.left)
 
-goes-Tile : (b : Box2) → Goes (leaves.Tile b) Moved (spelled (pattern Moved) (first (leaves.Tile b)) ++ (codes "square" ∷ spelled (pattern (Closing Tile)) (last (leaves.Tile b))))
-goes-Tile b f stack seen h m e st more r =
-    let a = pattern-to Moved 40 (drop 1 (pattern Moved)) [] (first (leaves.Tile b)) f stack seen (ins Moved [] (first (leaves.Tile b)) f stack seen) (first-near (leaves.Tile b) h) refl refl refl e st ((codes "square" ∷ spelled (pattern (Closing Tile)) (last (leaves.Tile b))) ++ more)
-    (regroup (spelled (pattern Moved) (first (leaves.Tile b))) (codes "square" ∷ spelled (pattern (Closing Tile)) (last (leaves.Tile b))) more st r) in
-    onward a (shape-to (leaves.Tile b) Moved (codes "square") 40 (drop 1 (pattern (Closing Tile))) (first (leaves.Tile b)) (last (leaves.Tile b)) f stack seen refl (λ t x. ap (λ w. step (ins Moved [] (first (leaves.Tile b)) f stack seen) (record t { text = w })) x) refl (last-near (leaves.Tile b) h) refl refl h m e a.rest more a.left)
+goes-Tile : (l : ALeaf) (fs ls : List ℤ) → Says Tile (fs ++ ls) l → Near fs → Near ls → length fs ≡ 3 → length ls ≡ 2
+    → Goes l Moved (spelled (pattern Moved) fs ++ (codes "square" ∷ spelled (pattern (Closing Tile)) ls))
+goes-Tile l fs ls says nf nl cf cl f stack seen m e st more r =
+    let a = pattern-to Moved 40 (drop 1 (pattern Moved)) [] fs f stack seen (ins Moved [] fs f stack seen) nf cf refl refl e st ((codes "square" ∷ spelled (pattern (Closing Tile)) ls) ++ more)
+    (regroup (spelled (pattern Moved) fs) (codes "square" ∷ spelled (pattern (Closing Tile)) ls) more st r) in
+    onward a (shape-to l Tile Moved (codes "square") 40 (drop 1 (pattern (Closing Tile))) fs ls f stack seen (λ t x. ap (λ w. step (ins Moved [] fs f stack seen) (record t { text = w })) x) says nl cl refl m e a.rest more a.left)
 
 -- a leaf behind its first name, which names the part
-leaf-at : (l : ALeaf) (p : Part) (name : List ℕ) (tail : List (List ℕ)) (stack : List Open) (seen : Option Bool) → Goes l p tail
-    → ((t : AToken) → t.text ≡ name → step (nodes stack seen) t ≡ Ok (ins p (pattern p) [] (place_of t) stack seen)) → words (leaf l) ≡ name ∷ tail → IsLeaf l → mixes seen (is_solid_leaf l) ≡ false
-    → (e : ℕ) (st : Stream) (more : List (List ℕ)) → Comes st (words (leaf l) ++ more) → To e (nodes stack seen) st more (Ends l stack seen)
-leaf-at l p name tail stack seen g named w h m e (ended n) more r = absurd (subst (λ ws. Comes (ended n) (ws ++ more)) w r)
-leaf-at l p name tail stack seen g named w h m e (broken k n) more r = absurd (subst (λ ws. Comes (broken k n) (ws ++ more)) w r)
-leaf-at l p name tail stack seen g named w h m e (token a rest) more r =
+leaf-at : (l : ALeaf) (p : Part) (name : List ℕ) (tail ws : List (List ℕ)) (stack : List Open) (seen : Option Bool) → Goes l p tail
+    → ((t : AToken) → t.text ≡ name → step (nodes stack seen) t ≡ Ok (ins p (pattern p) [] (place_of t) stack seen)) → ws ≡ name ∷ tail → mixes seen (is_solid_leaf l) ≡ false
+    → (e : ℕ) (st : Stream) (more : List (List ℕ)) → Comes st (ws ++ more) → To e (nodes stack seen) st more (Ends l stack seen)
+leaf-at l p name tail ws stack seen g named w m e (ended n) more r = absurd (subst (λ ws. Comes (ended n) (ws ++ more)) w r)
+leaf-at l p name tail ws stack seen g named w m e (broken k n) more r = absurd (subst (λ ws. Comes (broken k n) (ws ++ more)) w r)
+leaf-at l p name tail ws stack seen g named w m e (token a rest) more r =
     let q : Comes (token a rest) (name ∷ (tail ++ more)) = subst (λ ws. Comes (token a rest) (ws ++ more)) w r in
-    let b = g (place_of a) stack seen h m e rest more q.1 in
+    let b = g (place_of a) stack seen m e rest more q.1 in
     record { rest = b.rest; left = b.left; same = ap (λ x. x >>= λ next. run e next rest) (named a q.0) ∙ b.same }
 
-pub leaf-to : (l : ALeaf) (stack : List Open) (seen : Option Bool) → IsLeaf l → mixes seen (is_solid_leaf l) ≡ false → (e : ℕ) (st : Stream) (more : List (List ℕ)) → Comes st (words (leaf l) ++ more)
+abbrev pub semi : List (List ℕ) → List (List ℕ)
+semi ws = ws ++ codes ";" ∷ []
+
+abbrev LeafTo : ALeaf → List (List ℕ) → Type 0
+LeafTo l ws =
+    (stack : List Open) (seen : Option Bool) → mixes seen (is_solid_leaf l) ≡ false → (e : ℕ) (st : Stream) (more : List (List ℕ)) → Comes st (semi ws ++ more)
     → To e (nodes stack seen) st more (Ends l stack seen)
-leaf-to (leaves.Slab f) stack seen h m e st more r =
-    leaf-at (leaves.Slab f) Placed (codes "multmatrix") (spelled (pattern Placed) (first (leaves.Slab f)) ++ (codes "cube" ∷ spelled (pattern (Closing Slab)) (last (leaves.Slab f)))) stack seen (goes-Slab f)
-    (λ t x. ap (λ w. step (nodes stack seen) (record t { text = w })) x) refl h m e st more r
-leaf-to (leaves.Strip f) stack seen h m e st more r =
-    leaf-at (leaves.Strip f) Placed (codes "multmatrix") (spelled (pattern Placed) (first (leaves.Strip f)) ++ (codes "square" ∷ spelled (pattern (Closing Strip)) (last (leaves.Strip f)))) stack seen (goes-Strip f)
-    (λ t x. ap (λ w. step (nodes stack seen) (record t { text = w })) x) refl h m e st more r
-leaf-to (leaves.Disc d) stack seen h m e st more r =
-    leaf-at (leaves.Disc d) Moved (codes "translate") (spelled (pattern Moved) (first (leaves.Disc d)) ++ (codes "circle" ∷ spelled (pattern (Closing Disc)) (last (leaves.Disc d)))) stack seen (goes-Disc d)
-    (λ t x. ap (λ w. step (nodes stack seen) (record t { text = w })) x) refl h m e st more r
-leaf-to (leaves.Block b) stack seen h m e st more r =
-    leaf-at (leaves.Block b) Moved (codes "translate") (spelled (pattern Moved) (first (leaves.Block b)) ++ (codes "cube" ∷ spelled (pattern (Closing Block)) (last (leaves.Block b)))) stack seen (goes-Block b)
-    (λ t x. ap (λ w. step (nodes stack seen) (record t { text = w })) x) refl h m e st more r
-leaf-to (leaves.Tile b) stack seen h m e st more r =
-    leaf-at (leaves.Tile b) Moved (codes "translate") (spelled (pattern Moved) (first (leaves.Tile b)) ++ (codes "square" ∷ spelled (pattern (Closing Tile)) (last (leaves.Tile b)))) stack seen (goes-Tile b)
-    (λ t x. ap (λ w. step (nodes stack seen) (record t { text = w })) x) refl h m e st more r
+
+says-long : (l : ALeaf) → IsLeaf l → Says (form_of l) (numbers_of l) l
+says-long l h = inl (record { form_is = refl; numbers = refl; in_range = h })
+
+pub long-to : (l : ALeaf) → IsLeaf l → LeafTo l (long_words l)
+long-to (leaves.Slab f) h stack seen m e st more r =
+    leaf-at (leaves.Slab f) Placed (codes "multmatrix") (spelled (pattern Placed) (first (leaves.Slab f)) ++ (codes "cube" ∷ spelled (pattern (Closing Slab)) (last (leaves.Slab f)))) (semi (long_words (leaves.Slab f))) stack seen
+    (goes-Slab (leaves.Slab f) (first (leaves.Slab f)) (last (leaves.Slab f)) (says-long (leaves.Slab f) h) (first-near (leaves.Slab f) h) (last-near (leaves.Slab f) h) refl refl)
+    (λ t x. ap (λ w. step (nodes stack seen) (record t { text = w })) x) refl m e st more r
+long-to (leaves.Strip f) h stack seen m e st more r =
+    leaf-at (leaves.Strip f) Placed (codes "multmatrix") (spelled (pattern Placed) (first (leaves.Strip f)) ++ (codes "square" ∷ spelled (pattern (Closing Strip)) (last (leaves.Strip f)))) (semi (long_words (leaves.Strip f))) stack seen
+    (goes-Strip (leaves.Strip f) (first (leaves.Strip f)) (last (leaves.Strip f)) (says-long (leaves.Strip f) h) (first-near (leaves.Strip f) h) (last-near (leaves.Strip f) h) refl refl)
+    (λ t x. ap (λ w. step (nodes stack seen) (record t { text = w })) x) refl m e st more r
+long-to (leaves.Disc d) h stack seen m e st more r =
+    leaf-at (leaves.Disc d) Moved (codes "translate") (spelled (pattern Moved) (first (leaves.Disc d)) ++ (codes "circle" ∷ spelled (pattern (Closing Disc)) (last (leaves.Disc d)))) (semi (long_words (leaves.Disc d))) stack seen
+    (goes-Disc (leaves.Disc d) (first (leaves.Disc d)) (last (leaves.Disc d)) (says-long (leaves.Disc d) h) (first-near (leaves.Disc d) h) (last-near (leaves.Disc d) h) refl refl)
+    (λ t x. ap (λ w. step (nodes stack seen) (record t { text = w })) x) refl m e st more r
+long-to (leaves.Block b) h stack seen m e st more r =
+    leaf-at (leaves.Block b) Moved (codes "translate") (spelled (pattern Moved) (first (leaves.Block b)) ++ (codes "cube" ∷ spelled (pattern (Closing Block)) (last (leaves.Block b)))) (semi (long_words (leaves.Block b))) stack seen
+    (goes-Block (leaves.Block b) (first (leaves.Block b)) (last (leaves.Block b)) (says-long (leaves.Block b) h) (first-near (leaves.Block b) h) (last-near (leaves.Block b) h) refl refl)
+    (λ t x. ap (λ w. step (nodes stack seen) (record t { text = w })) x) refl m e st more r
+long-to (leaves.Tile b) h stack seen m e st more r =
+    leaf-at (leaves.Tile b) Moved (codes "translate") (spelled (pattern Moved) (first (leaves.Tile b)) ++ (codes "square" ∷ spelled (pattern (Closing Tile)) (last (leaves.Tile b)))) (semi (long_words (leaves.Tile b))) stack seen
+    (goes-Tile (leaves.Tile b) (first (leaves.Tile b)) (last (leaves.Tile b)) (says-long (leaves.Tile b) h) (first-near (leaves.Tile b) h) (last-near (leaves.Tile b) h) refl refl)
+    (λ t x. ap (λ w. step (nodes stack seen) (record t { text = w })) x) refl m e st more r
+
+short-to : (l : ALeaf) → IsAxis l → IsLeaf l → LeafTo l (short_words l)
+short-to (leaves.Slab f) a h stack seen m e st more r =
+    leaf-at (leaves.Slab f) Moved (codes "translate") (spelled (pattern Moved) (short_first (leaves.Slab f)) ++ (codes "cube" ∷ spelled (pattern (Closing Block)) (short_last (leaves.Slab f)))) (semi (short_words (leaves.Slab f))) stack seen
+    (goes-Block (leaves.Slab f) (short_first (leaves.Slab f)) (short_last (leaves.Slab f)) (inr (record { axis = a; form_is = refl; numbers = refl; in_range = h })) (short-first-near (leaves.Slab f) h) (short-last-near (leaves.Slab f)) refl refl)
+    (λ t x. ap (λ w. step (nodes stack seen) (record t { text = w })) x) refl m e st more r
+short-to (leaves.Strip f) a h stack seen m e st more r =
+    leaf-at (leaves.Strip f) Moved (codes "translate") (spelled (pattern Moved) (short_first (leaves.Strip f)) ++ (codes "square" ∷ spelled (pattern (Closing Tile)) (short_last (leaves.Strip f)))) (semi (short_words (leaves.Strip f))) stack seen
+    (goes-Tile (leaves.Strip f) (short_first (leaves.Strip f)) (short_last (leaves.Strip f)) (inr (record { axis = a; form_is = refl; numbers = refl; in_range = h })) (short-first-near (leaves.Strip f) h) (short-last-near (leaves.Strip f)) refl refl)
+    (λ t x. ap (λ w. step (nodes stack seen) (record t { text = w })) x) refl m e st more r
+short-to (leaves.Disc d) a h stack seen m e st more r = absurd a
+short-to (leaves.Block b) a h stack seen m e st more r = absurd a
+short-to (leaves.Tile b) a h stack seen m e st more r = absurd a
+
+leaf-to : (l : ALeaf) (ws : List (List ℕ)) → IsLeafWords l ws → IsLeaf l → LeafTo l ws
+leaf-to l ws (inl w) h stack seen m e st more r = long-to l h stack seen m e st more (subst (λ x. Comes st (semi x ++ more)) w r)
+leaf-to l ws (inr w) h stack seen m e st more r = short-to l w.0 h stack seen m e st more (subst (λ x. Comes st (semi x ++ more)) w.1 r)
 
 -- ---- operators
 
@@ -427,51 +504,55 @@ build-cut : (t : Tree) (kids : List Tree) (s : Shape) (ss : Shapes) → shape t 
 build-cut t kids s ss e f = record { tree = trees.Cut t kids; made = refl; is = shape-Cut t kids ∙ (λ i. cut (e i) (f i)) }
 
 -- an operator round its children
-wrap : (op : Op) (s : Shape) (ss : Shapes) (k : Bool) (stack : List Open) (seen : Option Bool) (e : ℕ) (st : Stream) (more : List (List ℕ)) (a : To e (nodes stack seen) st (words_all ss ++ (codes "}" ∷ more)) (nodes (opens op [] ∷ stack) seen))
+wrap : (op : Op) (s : Shape) (ss : Shapes) (k : Bool) (stack : List Open) (seen : Option Bool) (e : ℕ) (st : Stream) (more mid : List (List ℕ)) (a : To e (nodes stack seen) st (mid ++ (codes "}" ∷ more)) (nodes (opens op [] ∷ stack) seen))
     (b : Several ss k op [] stack seen e a.rest (codes "}" ∷ more)) → Built op s b.trees → One s k stack seen e st more
-wrap op s ss k stack seen e st more a b c =
+wrap op s ss k stack seen e st more mid a b c =
     let d = close-to op b.trees c.tree stack b.seen_now c.made e b.to.rest more b.to.left in
     record { tree = c.tree; seen_now = b.seen_now; compat = b.compat; is = c.is; to = onward a (onward b.to d) }
 
+-- the tokens ws instead
+read-as : (st : Stream) (ws us more : List (List ℕ)) → ws ≡ us → Comes st (ws ++ more) → Comes st (us ++ more)
+read-as st ws us more e r = subst (λ x. Comes st (x ++ more)) e r
+
 mutual
-  read_one : (s : Shape) (k : Bool) (stack : List Open) (seen : Option Bool) (e : ℕ) (st : Stream) (more : List (List ℕ)) → Compat seen k → AllLeaves (IsOk (Some k)) s → AllMeetsMeet s → length stack + depth s ≤ 64
-      → Comes st (words s ++ more) → One s k stack seen e st more
-  read_one (leaf l) k stack seen e st more c ok meets deep r =
+  read_one : (s : Shape) (ws : List (List ℕ)) → IsWords s ws → (k : Bool) (stack : List Open) (seen : Option Bool) (e : ℕ) (st : Stream) (more : List (List ℕ)) → Compat seen k → AllLeaves (IsOk (Some k)) s → AllMeetsMeet s
+      → length stack + depth s ≤ 64 → Comes st (ws ++ more) → One s k stack seen e st more
+  read_one (leaf l) ws w k stack seen e st more c ok meets deep r =
       let solid : is_solid_leaf l ≡ k = solid-is l k ok.1 in
       record {
         tree = trees.Leaf l;
         seen_now = Some (is_solid_leaf l);
         compat = inr (ap (λ b. Some b) solid);
         is = shape-Leaf l;
-        to = leaf-to l stack seen ok.0 (ap (mixes seen) solid ∙ unmixed seen k c) e st more r;
+        to = leaf-to l w.0 w.1 ok.0 stack seen (ap (mixes seen) solid ∙ unmixed seen k c) e st more (read-as st ws (semi w.0) more w.2 r);
       }
-  read_one (union kids) k stack seen e st more c ok meets deep r =
-      let a = open-to Union stack seen (omega arith) e st (words_all kids ++ (codes "}" ∷ more)) (inner (codes "union") (words_all kids) more st r) in
-      let b = read_all kids k Union [] stack seen e a.rest (codes "}" ∷ more) c ok meets (omega arith) a.left in
-      wrap Union (union kids) kids k stack seen e st more a b (build-union b.trees kids b.are)
-  read_one (meet kids) k stack seen e st more c ok meets deep r =
-      let a = open-to Meet stack seen (omega arith) e st (words_all kids ++ (codes "}" ∷ more)) (inner (codes "intersection") (words_all kids) more st r) in
-      let b = read_all kids k Meet [] stack seen e a.rest (codes "}" ∷ more) c ok meets.1 (omega arith) a.left in
-      wrap Meet (meet kids) kids k stack seen e st more a b (build-meet b.trees kids meets.0 b.are)
-  read_one (cut first kids) k stack seen e st more c ok meets deep r =
-      let a = open-to Cut stack seen (omega arith) e st ((words first ++ words_all kids) ++ (codes "}" ∷ more)) (inner (codes "difference") (words first ++ words_all kids) more st r) in
-      let o = read_one first k (opens Cut [] ∷ stack) seen e a.rest (words_all kids ++ (codes "}" ∷ more)) c ok.0 meets.0 (omega arith) (regroup (words first) (words_all kids) (codes "}" ∷ more) a.rest a.left) in
-      let b = read_all kids k Cut (o.tree ∷ []) stack o.seen_now e o.to.rest (codes "}" ∷ more) o.compat ok.1 meets.1 (omega arith) o.to.left in
+  read_one (union kids) ws w k stack seen e st more c ok meets deep r =
+      let a = open-to Union stack seen (omega arith) e st (w.0 ++ (codes "}" ∷ more)) (inner (codes "union") w.0 more st (read-as st ws _ more w.2 r)) in
+      let b = read_all kids w.0 w.1 k Union [] stack seen e a.rest (codes "}" ∷ more) c ok meets (omega arith) a.left in
+      wrap Union (union kids) kids k stack seen e st more w.0 a b (build-union b.trees kids b.are)
+  read_one (meet kids) ws w k stack seen e st more c ok meets deep r =
+      let a = open-to Meet stack seen (omega arith) e st (w.0 ++ (codes "}" ∷ more)) (inner (codes "intersection") w.0 more st (read-as st ws _ more w.2 r)) in
+      let b = read_all kids w.0 w.1 k Meet [] stack seen e a.rest (codes "}" ∷ more) c ok meets.1 (omega arith) a.left in
+      wrap Meet (meet kids) kids k stack seen e st more w.0 a b (build-meet b.trees kids meets.0 b.are)
+  read_one (cut first kids) ws w k stack seen e st more c ok meets deep r =
+      let a = open-to Cut stack seen (omega arith) e st ((w.0 ++ w.1) ++ (codes "}" ∷ more)) (inner (codes "difference") (w.0 ++ w.1) more st (read-as st ws _ more w.4 r)) in
+      let o = read_one first w.0 w.2 k (opens Cut [] ∷ stack) seen e a.rest (w.1 ++ (codes "}" ∷ more)) c ok.0 meets.0 (omega arith) (regroup w.0 w.1 (codes "}" ∷ more) a.rest a.left) in
+      let b = read_all kids w.1 w.3 k Cut (o.tree ∷ []) stack o.seen_now e o.to.rest (codes "}" ∷ more) o.compat ok.1 meets.1 (omega arith) o.to.left in
       let all : Several (child first kids) k Cut [] stack seen e a.rest (codes "}" ∷ more) = record { trees = o.tree ∷ b.trees; seen_now = b.seen_now; compat = b.compat; are = (λ i. child (o.is i) (b.are i)); to = onward o.to b.to } in
-      wrap Cut (cut first kids) (child first kids) k stack seen e st more a all (build-cut o.tree b.trees first kids o.is b.are)
+      wrap Cut (cut first kids) (child first kids) k stack seen e st more (w.0 ++ w.1) a all (build-cut o.tree b.trees first kids o.is b.are)
 
-  read_all : (ss : Shapes) (k : Bool) (op : Op) (top : List Tree) (stack : List Open) (seen : Option Bool) (e : ℕ) (st : Stream) (more : List (List ℕ)) → Compat seen k → EachLeaf (IsOk (Some k)) ss → EachMeetMeets ss
-      → length stack + 1 + depths ss ≤ 64 → Comes st (words_all ss ++ more) → Several ss k op top stack seen e st more
-  read_all none k op top stack seen e st more c ok meets deep r = record {
+  read_all : (ss : Shapes) (ws : List (List ℕ)) → AreWords ss ws → (k : Bool) (op : Op) (top : List Tree) (stack : List Open) (seen : Option Bool) (e : ℕ) (st : Stream) (more : List (List ℕ)) → Compat seen k
+      → EachLeaf (IsOk (Some k)) ss → EachMeetMeets ss → length stack + 1 + depths ss ≤ 64 → Comes st (ws ++ more) → Several ss k op top stack seen e st more
+  read_all none ws w k op top stack seen e st more c ok meets deep r = record {
     trees = [];
     seen_now = seen;
     compat = c;
     are = refl;
-    to = stay e (nodes (opens op top ∷ stack) seen) (nodes (opens op (top ++ []) ∷ stack) seen) st more (ap (λ l. nodes (opens op l ∷ stack) seen) (sym (append-nil top))) r;
+    to = stay e (nodes (opens op top ∷ stack) seen) (nodes (opens op (top ++ []) ∷ stack) seen) st more (ap (λ l. nodes (opens op l ∷ stack) seen) (sym (append-nil top))) (read-as st ws [] more w r);
   }
-  read_all (child s ss) k op top stack seen e st more c ok meets deep r =
-      let o = read_one s k (opens op top ∷ stack) seen e st (words_all ss ++ more) c ok.0 meets.0 (omega arith) (regroup (words s) (words_all ss) more st r) in
-      let b = read_all ss k op (top ++ o.tree ∷ []) stack o.seen_now e o.to.rest more o.compat ok.1 meets.1 (omega arith) o.to.left in
+  read_all (child s ss) ws w k op top stack seen e st more c ok meets deep r =
+      let o = read_one s w.0 w.2 k (opens op top ∷ stack) seen e st (w.1 ++ more) c ok.0 meets.0 (omega arith) (regroup w.0 w.1 more st (read-as st ws (w.0 ++ w.1) more w.4 r)) in
+      let b = read_all ss w.1 w.3 k op (top ++ o.tree ∷ []) stack o.seen_now e o.to.rest more o.compat ok.1 meets.1 (omega arith) o.to.left in
       let last = stay e (nodes (opens op ((top ++ o.tree ∷ []) ++ b.trees) ∷ stack) b.seen_now) (nodes (opens op (top ++ o.tree ∷ b.trees) ∷ stack) b.seen_now) b.to.rest more
       (ap (λ l. nodes (opens op l ∷ stack) b.seen_now) (append_assoc top (o.tree ∷ []) b.trees)) b.to.left in
       record { trees = o.tree ∷ b.trees; seen_now = b.seen_now; compat = b.compat; are = (λ i. child (o.is i) (b.are i)); to = onward o.to (onward b.to last) }
@@ -497,8 +578,8 @@ read-kind : (text : List ℕ) (s : Shape) (k : Bool) → Spells text s → AllLe
 read-kind text s k h g =
     let a = h.allowed in
     let deep : depth s ≤ 64 = a.nested in
-    let r : Comes (stream text) (words s ++ []) = subst (Comes (stream text)) (sym (append-nil (words s))) (comes (stream text) (words s) (stream_is_tokens text ∙ h.tokens)) in
-    let o = read_one s k [] None (end_line text) (stream text) [] (inl refl) (of-kind k s a.ranges g) a.meets (omega arith) r in
+    let r : Comes (stream text) (h.words ++ []) = subst (Comes (stream text)) (sym (append-nil h.words)) (comes (stream text) h.words (stream_is_tokens text ∙ h.tokens)) in
+    let o = read_one s h.words h.spelled k [] None (end_line text) (stream text) [] (inl refl) (of-kind k s a.ranges g) a.meets (omega arith) r in
     (o.tree, o.is, o.to.same ∙ ends (end_line text) o.tree o.seen_now o.to.rest o.to.left)
 
 spelled-by : (text : List ℕ) (s : Shape) → Spells text s → AllLeaves IsFlat s ⊎ AllLeaves IsSolid s → (t : Tree) × (shape t ≡ s) × (reading_of text ≡ Ok t)

@@ -1,14 +1,13 @@
 -- What holds of every text: it spells a tree or has a first fault, and not both; what is printed is read; and no fault is told
--- too late, since tokens without one begin a tree.
-use Rattle.std.specs.Prelude.{◌≡◌, ◌⊎◌, ℕ, ℤ, Bool, false, List, [], ◌∷◌, ◌++◌, map, Option, Some, Result, Ok, Err}
+-- too late, since tokens without one begin a tree. And where a leaf's numbers are at fault.
+use Rattle.std.specs.Prelude.{◌≡◌, ◌⊎◌, ◌↔◌, ℕ, ℤ, Bool, false, List, [], ◌∷◌, ◌++◌, map, Option, Some, Result, Ok, Err}
 use Rattle.bc_lex.specs.Tokens.{AToken}
 use Rattle.bc_lex.specs.Stream.{stream}
 use Rattle.bc_tree.specs.declared.tree.Leaf.{Leaf as ALeaf}
 use Rattle.bc_tree.specs.declared.tree.Tree.{Tree}
 use Rattle.bc_tree.specs.Decided.{is_solid_leaf}
-use Rattle.bc_tree.specs.Leaves.{IsLeaf}
 use Rattle.bc_tree.specs.Shape.{Shape, shape}
-use Rattle.bc_tree.specs.Words.{words}
+use Rattle.bc_tree.specs.Words.{IsWords}
 use Rattle.bc_tree.specs.Spells.{IsAllowed, Spells}
 use Rattle.bc_text.specs.declared.note.Note.{Note}
 use Rattle.bc_text.specs.declared.note.Head.{Head}
@@ -17,11 +16,12 @@ use Rattle.bc_read.specs.declared.part.Form.{Form}
 use Rattle.bc_read.specs.declared.part.Part.{Part}
 use Rattle.bc_read.specs.declared.part.Part.TheVariants.{Opening, Closing}
 use Rattle.bc_read.specs.declared.reading.Place.{Place}
+use Rattle.bc_read.specs.declared.reading.Open.{Open}
 use Rattle.bc_read.specs.declared.fault.CsgFault.{CsgFault}
 use Rattle.bc_read.specs.declared.fault.CsgFault.TheVariants.{BadFrame, Mixed}
 use Rattle.bc_read.specs.Table.{chosen}
-use Rattle.bc_read.specs.Leaves.{form_of, numbers_of}
-use Rattle.bc_read.specs.Machine.{At, node, inside, whole, State, start, mixes, step, ◌>>=◌, run, end_line, reading_of, FirstFault}
+use Rattle.bc_read.specs.Leaves.{Says}
+use Rattle.bc_read.specs.Machine.{At, node, inside, whole, State, start, mixes, ended_part, step, ◌>>=◌, run, end_line, reading_of, FirstFault}
 
 -- ---- trees and faults
 
@@ -45,6 +45,13 @@ FaultSpellsNone = (text : List ℕ) (f : CsgFault) (s : Shape) → FirstFault te
 abbrev pub HasOneFault : Type 0
 HasOneFault = (text : List ℕ) (f g : CsgFault) → FirstFault text f → FirstFault text g → f ≡ g
 
+-- at a leaf's `;`, BadFrame comes exactly where the numbers are those of no leaf, in either spelling; its place is the leaf's
+-- first token
+abbrev pub BadFrameExactly : Type 0
+BadFrameExactly =
+    (form : Form) (ns : List ℤ) (f : Place) (stack : List Open) (seen : Option Bool)
+    → ((ended_part (Closing form) ns f stack seen ≡ Err (BadFrame f.line f.token)) ↔ ((l : ALeaf) → Says form ns l → ⊥))
+
 -- ---- printed texts
 
 -- the layout of a tree that the grammar allows is read as that tree, whatever its head and notes are
@@ -60,7 +67,7 @@ behind s (t ∷ ts) = step s t >>= λ next. behind next ts
 
 -- the tokens are the first ones of a tree that the grammar allows
 abbrev pub BeginTree : List AToken → Type 0
-BeginTree front = (s : Shape) × (more : List (List ℕ)) × IsAllowed s × (words s ≡ map (λ (t : AToken). t.text) front ++ more)
+BeginTree front = (s : Shape) × (more : List (List ℕ)) × IsAllowed s × IsWords s (map (λ (t : AToken). t.text) front ++ more)
 
 -- a tree is read, or the leaf that begins at this place is at fault at its `;`
 abbrev pub IsUpToLeaf : Place → Result Tree CsgFault → Type 0
@@ -78,13 +85,14 @@ abbrev pub MayBe : Part → Form → Type 0
 MayBe (Closing form) g = form ≡ g
 MayBe p g = (w : List ℕ) × (chosen p w ≡ Some g)
 
--- the part and the numbers so far begin this leaf, which is within its ranges and of the kind of those before it
+-- the part and the numbers so far begin this leaf in one of its spellings; it is within its ranges and of the kind of those
+-- before it
 pub record IsBegun (p : Part) (ns : List ℤ) (seen : Option Bool) (l : ALeaf) : Type 0 where
-  pub in_range : IsLeaf l
   pub kind : mixes seen (is_solid_leaf l) ≡ false
-  pub form : MayBe p (form_of l)
+  pub form : Form
+  pub may_be : MayBe p form
   pub more : List ℤ
-  pub numbers : numbers_of l ≡ ns ++ more
+  pub says : Says form (ns ++ more) l
 
 -- inside a leaf: where it may still be one that may stand here, the tokens begin a tree; and it can come to its `;` in any case
 pub record LeafBegins (p : Part) (ns : List ℤ) (f : Place) (front : List AToken) (s : State) : Type 0 where

@@ -1,5 +1,6 @@
 -- The table of leaves, a row for each way to write one, and the leaf that some numbers say.
-use Rattle.std.specs.Prelude.{◌≡◌, ℕ, zero, suc, ◌%◌, Bool, true, false, ◌&&◌, nat_eq, nat_le, nat_abs, get_or, List, [], ◌∷◌, Option, Some, None, ℤ, pos, negsuc, ◌+ℤ◌, ◌-ℤ◌, ◌<ℤ◌, int_le, if◌then◌else◌}
+use Rattle.std.specs.Prelude.{◌≡◌, ◌⊎◌, ◌||◌, ℕ, zero, suc, ◌%◌, Bool, true, false, ◌&&◌, nat_eq, nat_le, nat_abs, get_or, List, [], ◌∷◌, Option, Some, None, ℤ, pos, negsuc, neg_ℤ, ◌+ℤ◌, ◌-ℤ◌, ◌<ℤ◌, int_le, if◌then◌else◌}
+use Rattle.std.specs.Option.{option_or}
 use Rattle.std.specs.Ordering.{int_eq}
 use mathlib.Core.Path.{sym, refl, subst}
 use lib.Signed.{lt_z}
@@ -11,6 +12,7 @@ use Rattle.bc_num.specs.declared.v3.V3.{V3}
 use Rattle.bc_tree.specs.declared.tree.Leaf.{Leaf}
 use Rattle.bc_tree.specs.declared.tree.Leaf.TheVariants as leaves
 use Rattle.bc_tree.specs.Leaves.{u_of, v_of, normal_of, IsBetween, IsLeaf}
+use Rattle.bc_tree.specs.Axis.{IsAxis, is_axis, corner_of3, sides_of3, corner_of2, sides_of2}
 use Rattle.bc_read.specs.declared.part.Form.{Form}
 use Rattle.bc_read.specs.declared.part.Form.TheVariants.{Slab, Strip, Disc, Block, Tile}
 
@@ -33,7 +35,7 @@ strip_numbers o u n =
     u.x ∷ n.x ∷ pos 0 ∷ o.x ∷ u.y ∷ n.y ∷ pos 0 ∷ o.y ∷ pos 0 ∷ pos 0 ∷ pos 1 ∷ pos 0 ∷ pos 0 ∷ pos 0 ∷ pos 0 ∷ pos 1
     ∷ negsuc 8191 ∷ pos 0 ∷ pos 0 ∷ pos 16384 ∷ pos 8192 ∷ []
 
--- the one way to write each leaf
+-- the long way to write a leaf
 abbrev pub row : Leaf → Row
 row (leaves.Slab f) = record { form = Slab; numbers = slab_numbers f.o (u_of f.n) (v_of f.n) f.n }
 row (leaves.Strip f) = record { form = Strip; numbers = strip_numbers f.o f.u (normal_of f.u) }
@@ -47,11 +49,46 @@ form_of l = (row l).form
 abbrev pub numbers_of : Leaf → List ℤ
 numbers_of l = (row l).numbers
 
--- the form and the numbers are those of the leaf's row, and the leaf is within its ranges
-pub record Says (form : Form) (ns : List ℤ) (l : Leaf) : Type 0 where
+-- of the least corner c and the sides a: those of `translate`, then those of `cube`
+abbrev pub box3_numbers : V3 → V3 → List ℤ
+box3_numbers c a = c.x ∷ c.y ∷ c.z ∷ a.x ∷ a.y ∷ a.z ∷ []
+
+-- those of `translate`, then those of `square`
+abbrev pub box2_numbers : V2 → V2 → List ℤ
+box2_numbers c a = c.x ∷ c.y ∷ pos 0 ∷ a.x ∷ a.y ∷ []
+
+-- the short way to write an axis leaf, as a block or tile; of every other leaf the long way again
+abbrev pub short_row : Leaf → Row
+short_row (leaves.Slab f) = record { form = Block; numbers = box3_numbers (corner_of3 f.o f.n) (sides_of3 f.n) }
+short_row (leaves.Strip f) = record { form = Tile; numbers = box2_numbers (corner_of2 f.o (normal_of f.u)) (sides_of2 (normal_of f.u)) }
+short_row (leaves.Disc d) = row (leaves.Disc d)
+short_row (leaves.Block b) = row (leaves.Block b)
+short_row (leaves.Tile b) = row (leaves.Tile b)
+
+abbrev pub short_form : Leaf → Form
+short_form l = (short_row l).form
+
+abbrev pub short_numbers : Leaf → List ℤ
+short_numbers l = (short_row l).numbers
+
+-- ---- what numbers say
+
+-- the form and the numbers are those of the leaf's long row, and the leaf is within its ranges
+pub record LongSays (form : Form) (ns : List ℤ) (l : Leaf) : Type 0 where
   pub form_is : form ≡ form_of l
   pub numbers : ns ≡ numbers_of l
   pub in_range : IsLeaf l
+
+-- the leaf is an axis leaf, and the numbers are those of its short form
+pub record ShortSays (form : Form) (ns : List ℤ) (l : Leaf) : Type 0 where
+  pub axis : IsAxis l
+  pub form_is : form ≡ short_form l
+  pub numbers : ns ≡ short_numbers l
+  pub in_range : IsLeaf l
+
+-- in either spelling
+abbrev pub Says : Form → List ℤ → Leaf → Type 0
+Says form ns l = LongSays form ns l ⊎ ShortSays form ns l
 
 -- ---- tests of ranges
 
@@ -127,11 +164,62 @@ abbrev pub checked : List ℤ → Option Leaf → Option Leaf
 checked ns None = None
 checked ns (Some l) = if pointwise int_eq ns (numbers_of l) && is_leaf l then Some l else None
 
+-- the leaf whose long form this is
+abbrev pub long_of : Form → List ℤ → Option Leaf
+long_of form ns = checked ns (candidate form ns)
+
+-- of a corner's number and the side from there: the only component that the normal can have along this axis, and the only
+-- number that the origin can have
+abbrev pub component_of : ℤ → ℤ → ℤ
+component_of x a = if int_eq a (pos 16384) then pos 0 else (if is_near 1023 x then pos 1 else negsuc 0)
+
+abbrev pub origin_of : ℤ → ℤ → ℤ
+origin_of x n = if int_eq n (pos 1) || lt_z (pos 0) x then x else x +ℤ pos 8192
+
+-- the only axis slab of these numbers, or none
+abbrev pub box3_at : ℤ → ℤ → ℤ → ℤ → ℤ → ℤ → Leaf
+box3_at x y z a b c =
+    let n : V3 = record { x = component_of x a; y = component_of y b; z = component_of z c } in
+    leaves.Slab (record { o = record { x = origin_of x n.x; y = origin_of y n.y; z = origin_of z n.z }; n = n })
+
+-- the direction of which n is the normal
+abbrev pub direction_of : V2 → V2
+direction_of n = record { x = n.y; y = neg_ℤ n.x }
+
+abbrev pub box2_at : ℤ → ℤ → ℤ → ℤ → Leaf
+box2_at x y a b =
+    let n : V2 = record { x = component_of x a; y = component_of y b } in
+    leaves.Strip (record { o = record { x = origin_of x n.x; y = origin_of y n.y }; u = direction_of n })
+
+abbrev pub short_candidate : Form → List ℤ → Option Leaf
+short_candidate Block ns = Some (box3_at (get_or ns 0 (pos 0)) (get_or ns 1 (pos 0)) (get_or ns 2 (pos 0)) (get_or ns 3 (pos 0)) (get_or ns 4 (pos 0)) (get_or ns 5 (pos 0)))
+short_candidate Tile ns = Some (box2_at (get_or ns 0 (pos 0)) (get_or ns 1 (pos 0)) (get_or ns 3 (pos 0)) (get_or ns 4 (pos 0)))
+short_candidate Slab ns = None
+short_candidate Strip ns = None
+short_candidate Disc ns = None
+
+abbrev pub short_checked : List ℤ → Option Leaf → Option Leaf
+short_checked ns None = None
+short_checked ns (Some l) = if is_axis l && (pointwise int_eq ns (short_numbers l) && is_leaf l) then Some l else None
+
+-- the axis leaf whose short form this is
+abbrev pub short_of : Form → List ℤ → Option Leaf
+short_of form ns = short_checked ns (short_candidate form ns)
+
 -- the leaf that the numbers say in this form
 abbrev pub leaf_of : Form → List ℤ → Option Leaf
-leaf_of form ns = checked ns (candidate form ns)
+leaf_of form ns = option_or (long_of form ns) (short_of form ns)
 
 -- it is the leaf that is said, and there is none where none is
+abbrev pub TellsBy : (Form → List ℤ → Leaf → Type 0) → Option Leaf → Form → List ℤ → Type 0
+TellsBy S None form ns = (l : Leaf) → S form ns l → ⊥
+TellsBy S (Some l) form ns = S form ns l
+
 abbrev pub Tells : Option Leaf → Form → List ℤ → Type 0
-Tells None form ns = (l : Leaf) → Says form ns l → ⊥
-Tells (Some l) form ns = Says form ns l
+Tells o form ns = TellsBy Says o form ns
+
+abbrev pub LongTells : Option Leaf → Form → List ℤ → Type 0
+LongTells o form ns = TellsBy LongSays o form ns
+
+abbrev pub ShortTells : Option Leaf → Form → List ℤ → Type 0
+ShortTells o form ns = TellsBy ShortSays o form ns

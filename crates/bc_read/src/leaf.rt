@@ -2,7 +2,9 @@ ghost use Rattle.std.specs.Prelude.{◌≡◌, ◌↔◌, [], ◌∷◌, pos, �
 ghost use Rattle.bc_tree.specs.Decided.{is_solid_leaf as solid_leaf};
 ghost use Rattle.bc_tree.specs.declared.tree.Leaf.TheVariants as leaves;
 ghost use Rattle.bc_tree.specs.Leaves.{IsFrame3, IsFrame2};
-ghost use Rattle.bc_read.specs.Leaves.{Tells, leaf_of as the_leaf, numbers_of, is_near as near, IsSideFrom};
+ghost use Rattle.bc_read.specs.Leaves.{LongTells, ShortTells, leaf_of as the_leaf, numbers_of, short_numbers, component_of as component, origin_of as origin, direction_of as direction, is_near as near, IsSideFrom};
+ghost use Rattle.bc_tree.specs.Axis.{IsAxis3, IsAxis2};
+ghost use Rattle.bc_algebra.specs.Within.{IsWithin};
 ghost use Rattle.bc_read.specs.declared.part.Form.TheVariants as forms;
 
 use crate::part::Form;
@@ -65,7 +67,7 @@ fn strip_numbers(f: &Frame2) -> [i64; 21]
 }
 
 fn slab(numbers: &[i64]) -> Option<Leaf>
-    ensures { Tells result forms.Slab numbers.now }
+    ensures { LongTells result forms.Slab numbers.now }
 {
     let [_, _, nx, ox, _, _, ny, oy, _, _, nz, oz, ..] = numbers else {
         return None;
@@ -90,7 +92,7 @@ fn slab(numbers: &[i64]) -> Option<Leaf>
 }
 
 fn strip(numbers: &[i64]) -> Option<Leaf>
-    ensures { Tells result forms.Strip numbers.now }
+    ensures { LongTells result forms.Strip numbers.now }
 {
     let [ux, _, _, ox, uy, _, _, oy, ..] = numbers else {
         return None;
@@ -104,7 +106,7 @@ fn strip(numbers: &[i64]) -> Option<Leaf>
 }
 
 fn disc(numbers: &[i64]) -> Option<Leaf>
-    ensures { Tells result forms.Disc numbers.now }
+    ensures { LongTells result forms.Disc numbers.now }
 {
     let [x, y, z, r2] = numbers else {
         return None;
@@ -120,7 +122,7 @@ fn disc(numbers: &[i64]) -> Option<Leaf>
 }
 
 fn block_of(x: i64, y: i64, z: i64, a: i64, b: i64, c: i64) -> Option<Leaf>
-    ensures { Tells result forms.Block (x ∷ y ∷ z ∷ a ∷ b ∷ c ∷ []) }
+    ensures { LongTells result forms.Block (x ∷ y ∷ z ∷ a ∷ b ∷ c ∷ []) }
 {
     let x1 = far_end(x, a)?;
     let y1 = far_end(y, b)?;
@@ -136,7 +138,7 @@ fn block_of(x: i64, y: i64, z: i64, a: i64, b: i64, c: i64) -> Option<Leaf>
 }
 
 fn block(numbers: &[i64]) -> Option<Leaf>
-    ensures { Tells result forms.Block numbers.now }
+    ensures { LongTells result forms.Block numbers.now }
 {
     match numbers {
         [x, y, z, a, b, c] => block_of(*x, *y, *z, *a, *b, *c),
@@ -145,7 +147,7 @@ fn block(numbers: &[i64]) -> Option<Leaf>
 }
 
 fn tile_of(x: i64, y: i64, z: i64, a: i64, b: i64) -> Option<Leaf>
-    ensures { Tells result forms.Tile (x ∷ y ∷ z ∷ a ∷ b ∷ []) }
+    ensures { LongTells result forms.Tile (x ∷ y ∷ z ∷ a ∷ b ∷ []) }
 {
     let x1 = far_end(x, a)?;
     let y1 = far_end(y, b)?;
@@ -162,7 +164,7 @@ fn tile_of(x: i64, y: i64, z: i64, a: i64, b: i64) -> Option<Leaf>
 }
 
 fn tile(numbers: &[i64]) -> Option<Leaf>
-    ensures { Tells result forms.Tile numbers.now }
+    ensures { LongTells result forms.Tile numbers.now }
 {
     match numbers {
         [x, y, z, a, b] => tile_of(*x, *y, *z, *a, *b),
@@ -170,7 +172,113 @@ fn tile(numbers: &[i64]) -> Option<Leaf>
     }
 }
 
-/// The leaf that the numbers say in this form; `None` exactly where they say none.
+// The only component that a normal can have along an axis, for the corner and the side of a short form there.
+fn component_of(x: i64, a: i64) -> i64
+    ensures value { result ≡ component x a }
+    ensures small { IsWithin 1 result }
+{
+    if a == 16384 {
+        0
+    } else if is_near(x, 1023) {
+        1
+    } else {
+        -1
+    }
+}
+
+// The only number that an origin can have there, for the corner and that component.
+fn origin_of(x: i64, n: i64) -> i64
+    ensures { result ≡ origin x n }
+{
+    if n == 1 || x > 0 { x } else { x + 8192 }
+}
+
+// The numbers of an axis slab's short form.
+fn box3_numbers(f: &Frame3) -> [i64; 6]
+    requires frame { IsFrame3 f.now }
+    requires axis { IsAxis3 f.now.n }
+    ensures { result ≡ short_numbers (leaves.Slab f.now) }
+{
+    let corner = f.least_corner();
+    let sides = f.sides();
+    [corner.x, corner.y, corner.z, sides.x, sides.y, sides.z]
+}
+
+// The numbers of an axis strip's short form.
+fn box2_numbers(f: &Frame2) -> [i64; 5]
+    requires frame { IsFrame2 f.now }
+    requires axis { IsAxis2 f.now.u }
+    ensures { result ≡ short_numbers (leaves.Strip f.now) }
+{
+    let corner = f.least_corner();
+    let sides = f.sides();
+    [corner.x, corner.y, 0, sides.x, sides.y]
+}
+
+// The axis slab of which this is the short form.
+fn axis_slab(numbers: &[i64]) -> Option<Leaf>
+    ensures { ShortTells result forms.Block numbers.now }
+{
+    let [x, y, z, a, b, c] = numbers else {
+        return None;
+    };
+    let n = V3 {
+        x: component_of(*x, *a),
+        y: component_of(*y, *b),
+        z: component_of(*z, *c),
+    };
+    let o = V3 {
+        x: origin_of(*x, n.x),
+        y: origin_of(*y, n.y),
+        z: origin_of(*z, n.z),
+    };
+    let frame = Frame3::new(o, n)?;
+    if !frame.is_axis() {
+        return None;
+    }
+    if numbers == box3_numbers(&frame).as_slice() {
+        Some(Leaf::Slab(frame))
+    } else {
+        None
+    }
+}
+
+// The direction of this normal.
+fn direction_of(n: V2) -> V2
+    requires { IsWithin 1 n.x }
+    ensures { result ≡ direction n }
+{
+    V2 { x: n.y, y: -n.x }
+}
+
+// The axis strip of which this is the short form.
+fn axis_strip(numbers: &[i64]) -> Option<Leaf>
+    ensures { ShortTells result forms.Tile numbers.now }
+{
+    let [x, y, _, a, b] = numbers else {
+        return None;
+    };
+    let n = V2 {
+        x: component_of(*x, *a),
+        y: component_of(*y, *b),
+    };
+    let o = V2 {
+        x: origin_of(*x, n.x),
+        y: origin_of(*y, n.y),
+    };
+    let frame = Frame2::new(o, direction_of(n))?;
+    if !frame.is_axis() {
+        return None;
+    }
+    if numbers == box2_numbers(&frame).as_slice() {
+        Some(Leaf::Strip(frame))
+    } else {
+        None
+    }
+}
+
+/// The leaf that the numbers say in this form, in the long spelling or in the short one of an axis leaf; `None` exactly where
+/// they say none.
 pub fn leaf_of(form: Form, numbers: &[i64]) -> Option<Leaf>
     ensures { result ≡ the_leaf form numbers.now }
 {
@@ -178,7 +286,7 @@ pub fn leaf_of(form: Form, numbers: &[i64]) -> Option<Leaf>
         Form::Slab => slab(numbers),
         Form::Strip => strip(numbers),
         Form::Disc => disc(numbers),
-        Form::Block => block(numbers),
-        Form::Tile => tile(numbers),
+        Form::Block => block(numbers).or(axis_slab(numbers)),
+        Form::Tile => tile(numbers).or(axis_strip(numbers)),
     }
 }

@@ -20,7 +20,8 @@ fn end_line(text: &[u8]) -> u32
 
 /// The tree that a text of at most 2^28 bytes spells: one union, intersection, difference or leaf, after the OpenSCAD language
 /// with this project's profile. At most 64 operators are nested, each intersection has a child, each leaf is within its ranges,
-/// and leaves of the plane and of space do not both occur. Blanks and comments are free between tokens.
+/// and leaves of the plane and of space do not both occur. A slab or strip along an axis is read in its long and in its short
+/// form, in one text too. Blanks and comments are free between tokens.
 ///
 /// The text is read once, from left to right. Memory is taken for the tree, the operators that are open and the numbers of one
 /// leaf.

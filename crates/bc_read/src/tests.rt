@@ -4,11 +4,12 @@ use super::*;
 use bc_io::MemSink;
 use bc_num::{Box2, Box3};
 use bc_text::{Head, print};
+use bc_tree::has_flat;
 use std::alloc::Global;
 use std::test::Fail;
 
 // Texts and their first faults.
-const REFUSED: [(&[u8], CsgFault); 26] = [
+const REFUSED: [(&[u8], CsgFault); 32] = [
     (b"union(){", CsgFault::BadShape { line: 2, token: 5 }),
     (b"union(){ ? }", CsgFault::BadToken { line: 1, token: 5 }),
     (
@@ -80,6 +81,31 @@ const REFUSED: [(&[u8], CsgFault); 26] = [
         b"translate([0,0,0]) square([1,1])",
         CsgFault::BadShape { line: 2, token: 19 },
     ),
+    // no short form of an axis leaf: by its corner, its sides, its third number, two normals, a side that is too short
+    (
+        b"translate([2000,0,0]) square([16384,8192]);",
+        CsgFault::BadFrame { line: 1, token: 1 },
+    ),
+    (
+        b"translate([-8192,0,0]) square([16384,16384]);",
+        CsgFault::BadFrame { line: 1, token: 1 },
+    ),
+    (
+        b"translate([-8192,0,1]) square([16384,8192]);",
+        CsgFault::BadFrame { line: 1, token: 1 },
+    ),
+    (
+        b"translate([-8192,0,0]) cube([16384,8192,8192]);",
+        CsgFault::BadFrame { line: 1, token: 1 },
+    ),
+    (
+        b"translate([0,-8192,0]) cube([8191,16384,16384]);",
+        CsgFault::BadFrame { line: 1, token: 1 },
+    ),
+    (
+        b"union(){translate([-8192,0,0]) square([16384,8192]);translate([-8192,-8192,0]) cube([16384,16384,8192]);}",
+        CsgFault::Mixed { line: 1, token: 24 },
+    ),
 ];
 
 #[test]
@@ -97,7 +123,7 @@ fn refused_texts(rt: HostRuntime) -> Result<(), Fail> {
 
 // Printed texts, with notes and without.
 const DISC: &str = "\
-// bcsg 1 contour
+// bcsg 2 contour
 // box -6 -6 6 6
 union() {
   // own 2 -2 1
@@ -112,7 +138,7 @@ union() {
 ";
 
 const TETRAHEDRON: &str = "\
-// bcsg 1 solid
+// bcsg 2 solid
 // box -1 -1 -1 2 2 2
 union() {
   // own 1 1 1 8
@@ -120,11 +146,11 @@ union() {
     intersection() {
       translate([-1,-1,-1]) cube([3,3,3]);
       // out 1 1 -1 4
-      multmatrix([[1,0,0,0],[0,1,0,0],[0,0,1,0],[0,0,0,1]]) translate([-8192,-8192,0]) cube([16384,16384,8192]);
+      translate([-8192,-8192,0]) cube([16384,16384,8192]);
       // out 1 -1 1 4
-      multmatrix([[1,0,0,0],[0,0,1,0],[0,-1,0,0],[0,0,0,1]]) translate([-8192,-8192,0]) cube([16384,16384,8192]);
+      translate([-8192,0,-8192]) cube([16384,8192,16384]);
       // out -1 1 1 4
-      multmatrix([[0,0,1,0],[-1,0,0,0],[0,-1,0,0],[0,0,0,1]]) translate([-8192,-8192,0]) cube([16384,16384,8192]);
+      translate([0,-8192,-8192]) cube([8192,16384,16384]);
     }
     // out 1 1 1 1
     multmatrix([[1,1,1,1],[-1,0,1,0],[0,-1,1,0],[0,0,0,1]]) translate([-8192,-8192,0]) cube([16384,16384,8192]);
@@ -133,7 +159,7 @@ union() {
 ";
 
 const BULGE: &str = "\
-// bcsg 1 contour
+// bcsg 2 contour
 // box -1 -1 16 11
 union() {
   // own 10 10 3
@@ -141,14 +167,14 @@ union() {
     intersection() {
       translate([-1,-1,0]) square([17,12]);
       // out 10 -1 3
-      multmatrix([[1,0,0,0],[0,1,0,0],[0,0,1,0],[0,0,0,1]]) translate([-8192,0,0]) square([16384,8192]);
+      translate([-8192,0,0]) square([16384,8192]);
       // out 61 5 4
-      multmatrix([[0,-1,0,10],[1,0,0,0],[0,0,1,0],[0,0,0,1]]) translate([-8192,0,0]) square([16384,8192]);
+      translate([-8182,-8192,0]) square([8192,16384]);
     }
     // out 10 31 3
-    multmatrix([[1,0,0,10],[0,1,0,10],[0,0,1,0],[0,0,0,1]]) translate([-8192,0,0]) square([16384,8192]);
+    translate([-8182,10,0]) square([16384,8192]);
     // out -1 10 3
-    multmatrix([[0,-1,0,0],[1,0,0,10],[0,0,1,0],[0,0,0,1]]) translate([-8192,0,0]) square([16384,8192]);
+    translate([-8192,-8182,0]) square([8192,16384]);
   }
   // own 42 10 3
   difference() {
@@ -162,21 +188,21 @@ union() {
 ";
 
 const PLATE: &str = "\
-// bcsg 1 contour
+// bcsg 2 contour
 // box -1 -1 41 21
 union() {
   difference() {
     intersection() {
       translate([-1,-1,0]) square([42,22]);
-      multmatrix([[1,0,0,5],[0,1,0,0],[0,0,1,0],[0,0,0,1]]) translate([-8192,0,0]) square([16384,8192]);
+      translate([-8187,0,0]) square([16384,8192]);
       multmatrix([[1,-1,0,35],[1,1,0,0],[0,0,1,0],[0,0,0,1]]) translate([-8192,0,0]) square([16384,8192]);
-      multmatrix([[0,-1,0,40],[1,0,0,5],[0,0,1,0],[0,0,0,1]]) translate([-8192,0,0]) square([16384,8192]);
+      translate([-8152,-8187,0]) square([8192,16384]);
       multmatrix([[1,1,0,0],[-1,1,0,5],[0,0,1,0],[0,0,0,1]]) translate([-8192,0,0]) square([16384,8192]);
     }
     multmatrix([[1,1,0,40],[-1,1,0,15],[0,0,1,0],[0,0,0,1]]) translate([-8192,0,0]) square([16384,8192]);
-    multmatrix([[1,0,0,35],[0,1,0,20],[0,0,1,0],[0,0,0,1]]) translate([-8192,0,0]) square([16384,8192]);
+    translate([-8157,20,0]) square([16384,8192]);
     multmatrix([[1,-1,0,5],[1,1,0,20],[0,0,1,0],[0,0,0,1]]) translate([-8192,0,0]) square([16384,8192]);
-    multmatrix([[0,-1,0,0],[1,0,0,15],[0,0,1,0],[0,0,0,1]]) translate([-8192,0,0]) square([16384,8192]);
+    translate([-8192,-8177,0]) square([8192,16384]);
     translate([12,10,0]) circle(r=sqrt(9));
     translate([28,10,0]) circle(r=sqrt(9));
   }
@@ -260,6 +286,56 @@ fn printed_texts(rt: HostRuntime) -> Result<(), Fail> {
         assert!(rt; again.held().len() < 4096);
         let third = printed_again(alloc, again.held(), &head)?;
         assert_eq!(rt; third.held(), again.held());
+    }
+    Ok(())
+}
+
+// Texts, and what an upgrade of them writes: an axis leaf in its short form, whichever way it was written, and no comments.
+const UPGRADES: [(&str, &str); 6] = [
+    (
+        "multmatrix([[1,0,0,0],[0,1,0,0],[0,0,1,0],[0,0,0,1]]) translate([-8192,0,0]) square([16384,8192]);",
+        "// bcsg 2 contour\ntranslate([-8192,0,0]) square([16384,8192]);\n",
+    ),
+    ("union(){}", "// bcsg 2 solid\nunion() {\n}\n"),
+    (
+        "// both spellings\nintersection(){translate([-8192,0,0]) square([16384,8192]); multmatrix([[1,0,0,0],[0,1,0,0],[0,0,1,0],[0,0,0,1]]) translate([-8192,0,0]) square([16384,8192]);}",
+        "// bcsg 2 contour\nintersection() {\n  translate([-8192,0,0]) square([16384,8192]);\n  translate([-8192,0,0]) square([16384,8192]);\n}\n",
+    ),
+    (
+        "difference(){translate([0,0,0])cube([1,1,1]);multmatrix([[0,0,-1,1],[1,0,0,2],[0,1,0,3],[0,0,0,1]])translate([-8192,-8192,0])cube([16384,16384,8192]);}",
+        "// bcsg 2 solid\ndifference() {\n  translate([0,0,0]) cube([1,1,1]);\n  translate([-8191,-8190,-8189]) cube([8192,16384,16384]);\n}\n",
+    ),
+    (
+        "translate([-1023,-9215,0]) square([8192,16384]);",
+        "// bcsg 2 contour\ntranslate([-1023,-9215,0]) square([8192,16384]);\n",
+    ),
+    (
+        "translate([-9215,-7169,-8192]) cube([8192,16384,16384]);",
+        "// bcsg 2 solid\ntranslate([-9215,-7169,-8192]) cube([8192,16384,16384]);\n",
+    ),
+];
+
+// The text that is printed without a box of the tree that a text spells.
+fn upgraded(alloc: Global, text: &[u8]) -> Result<MemSink, &'static str>
+    requires { length text.now ≤ 2 ^ 28 }
+{
+    let tree = read_csg(alloc, text).map_err(|_| "not read")?;
+    let head = Head::Plain {
+        flat: has_flat(&tree),
+    };
+    let mut out = MemSink::new(alloc, 4096, 4096, Vec::new(alloc)).map_err(|_| "memory")?;
+    print(alloc, &tree, &head, &[], &mut out).map_err(|_| "not printed")?;
+    Ok(out)
+}
+
+#[test]
+fn upgraded_texts(rt: HostRuntime) -> Result<(), Fail> {
+    let alloc = rt.alloc();
+    for (text, want) in UPGRADES {
+        assert!(rt; text.len() < 4096);
+        assert_eq!(rt; upgraded(alloc, text.as_bytes())?.held(), want.as_bytes());
+        assert!(rt; want.len() < 4096);
+        assert_eq!(rt; upgraded(alloc, want.as_bytes())?.held(), want.as_bytes());
     }
     Ok(())
 }

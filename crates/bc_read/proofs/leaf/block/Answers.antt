@@ -3,7 +3,7 @@ use Rattle.std.proofs.lemmas.Int.{to_z-of_z}
 use Rattle.std.specs.Int.RustNames.{FitsSigned}
 use Rattle.std.specs.Prelude.{pos}
 use mir.Syntax.{w64}
-use Rattle.bc_read.specs.Leaves.{Tells}
+use Rattle.bc_read.specs.Leaves.{LongTells}
 use Rattle.bc_read.specs.declared.part.Form.TheVariants as forms
 use Rattle.bc_read.proofs.LeafTests.{six}
 use Rattle.bc_read.proofs.leaf.block.Goals as goal
@@ -20,4 +20,4 @@ returns-in-len6 c =
     let most = c.in-len6.len_below in
     let long : length c.args.numbers.now ≡ 6 = omega arith in
     let h = simp to_z-of_z at c.block_of.ensures in
-    subst (Tells c.block_of.result forms.Block) (sym (six c.args.numbers.now long)) h
+    subst (LongTells c.block_of.result forms.Block) (sym (six c.args.numbers.now long)) h

@@ -3,7 +3,7 @@ use Rattle.std.proofs.lemmas.Int.{to_z-of_z}
 use Rattle.std.specs.Int.RustNames.{FitsSigned}
 use Rattle.std.specs.Prelude.{pos}
 use mir.Syntax.{w64}
-use Rattle.bc_read.specs.Leaves.{Tells}
+use Rattle.bc_read.specs.Leaves.{LongTells}
 use Rattle.bc_read.specs.declared.part.Form.TheVariants as forms
 use Rattle.bc_read.proofs.LeafTests.{five}
 use Rattle.bc_read.proofs.leaf.tile.Goals as goal
@@ -19,4 +19,4 @@ returns-in-len5 c =
     let most = c.in-len5.len_below in
     let long : length c.args.numbers.now ≡ 5 = omega arith in
     let h = simp to_z-of_z at c.tile_of.ensures in
-    subst (Tells c.tile_of.result forms.Tile) (sym (five c.args.numbers.now long)) h
+    subst (LongTells c.tile_of.result forms.Tile) (sym (five c.args.numbers.now long)) h
