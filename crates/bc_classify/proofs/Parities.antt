@@ -1,11 +1,14 @@
 -- A free point is odd exactly where its mask is, at any point of its region.
-use Rattle.std.specs.Prelude.{◌≡◌, Bool, true, false, ◌&&◌, ◌||◌, List, length, slice_index_or, All}
+use Rattle.std.specs.Prelude.{◌≡◌, ◌≢◌, ℕ, Bool, true, false, ◌&&◌, ◌||◌, List, length, slice_index_or, All}
 use Rattle.std.specs.List.{Contains}
 use Rattle.std.proofs.Common.{refl, sym, ap, ◌∙◌, subst}
 use Rattle.std.proofs.lemmas.List.Elements.{Contains-get_or}
 use Rattle.bc_num.specs.declared.p2.P2.{P2}
 use Rattle.bc_num.specs.declared.disc2.Disc2.{Disc2}
 use Rattle.bc_num.specs.Measures.{is_same, square_between}
+use Rattle.bc_space.specs.declared.side.Side.TheVariants.{On}
+use Rattle.bc_space.specs.Lines.{line_side}
+use Rattle.bc_space.specs.Regions.{mask_of}
 use Rattle.bc_space.specs.LinesThrough.{IsLineThrough}
 use Rattle.bc_solid.specs.declared.element.Element.{Element}
 use Rattle.bc_solid.specs.declared.element.Element.TheVariants.{Edge, Arc}
@@ -23,7 +26,7 @@ use Rattle.bc_parity.specs.Laws.{FlipLaw, StraightCellLaw}
 use Rattle.bc_parity.proofs.Halves.{ForHalves, for_halves}
 use Rattle.bc_parity.proofs.Straight.{left_same, right_same}
 use Rattle.bc_parity.proofs.Xors.{odd-same}
-use Rattle.bc_natural.specs.Curves.{Curves, AreCurves, is_arc, IsDiscOf}
+use Rattle.bc_natural.specs.Curves.{Curves, AreCurves, lines_of, is_arc, IsDiscOf}
 use Rattle.bc_natural.specs.Masks.{curve_mask}
 use Rattle.bc_natural.proofs.Table.{entry_at, line_in_table, line_from_element, disc_in_table, disc_from_element}
 use Rattle.bc_classify.specs.OddMasks.{has_disc, flips, is_odd_mask}
@@ -78,6 +81,16 @@ flip_same es t k p q (Arc a b c ccw) m (f, g, s) =
     sides_same ccw (is_left a b p) (is_right a b p) (is_left a b q) (is_right a b q)
     (left_same a b p q (f.0 n refl) (g.0 n refl) (s.0 n refl)) (right_same a b p q (f.0 n refl) (g.0 n refl) (s.0 n refl)))
 
+-- an element flips a mask's parity at p just where it flips that at q
+flips_moved : (t : Curves) (mask : ℕ) (p q : P2) (e : Element) → IsAlike p q e → flips t p mask e ≡ flips t q mask e
+flips_moved t mask p q (Edge a b) alike = refl
+flips_moved t mask p q (Arc a b c ccw) (f, g, s) =
+    both_same (has_disc mask (length t.lines) t.discs c (square_between c a)) (has_disc mask (length t.lines) t.discs c (square_between c a)) (is_same a b)
+    (is_on_arc_side (arc_of a b c ccw) p) (is_on_arc_side (arc_of a b c ccw) q) refl
+    (λ n.
+    sides_same ccw (is_left a b p) (is_right a b p) (is_left a b q) (is_right a b q)
+    (left_same a b p q (f.0 n refl) (g.0 n refl) (s.0 n refl)) (right_same a b p q (f.0 n refl) (g.0 n refl) (s.0 n refl)))
+
 -- ---- all elements
 
 flips_same : (es : List Element) (t : Curves) → HasDiscs es t → (p q : P2) → IsOffLines es p → IsOffLines es q → AreAlikeByLines es p q → is_oddly_flipped es p ≡ odd (flips t q (curve_mask t p)) es
@@ -105,3 +118,19 @@ odd_masks es t h profile flip straight p q off_p off_q same =
     let k = table_is es t h in
     let proper = proper_of es profile in
     one_mask es t k.disc_in flip straight p q off_p (off_lines es t k proper q off_q) (alike_by_lines es t k proper p q (sym same))
+
+-- a mask has the same parity at all points on none of the table's lines that are Above the same of them
+pub region_parity : (es : List Element) (t : Curves) → AreCurves es t → All IsProper es → StraightCellLaw es
+    → (p q : P2) → All (λ l. line_side l p ≢ On) (lines_of t) → All (λ l. line_side l q ≢ On) (lines_of t) → mask_of line_side (lines_of t) p ≡ mask_of line_side (lines_of t) q
+    → (mask : ℕ) → is_odd_mask es t p mask ≡ is_odd_mask es t q mask
+region_parity es t h proper straight p q off_p off_q same mask =
+    let k = table_is es t h in
+    let f = off_lines es t k proper p off_p in
+    let g = off_lines es t k proper q off_q in
+    let s = alike_by_lines es t k proper p q same in
+    let fs = for_halves (λ h. is_line h ≡ true → IsOn h p → ⊥) es f in
+    let gs = for_halves (λ h. is_line h ≡ true → IsOn h q → ⊥) es g in
+    let ss = for_halves (λ h. is_line h ≡ true → is_above h p ≡ is_above h q) es s in
+    ap (λ b. xor b (odd (flips t p mask) es)) (straight p q f g s)
+    ∙ ap (xor (is_straight_odd_at es q))
+    (odd-same (flips t p mask) (flips t q mask) es (λ i d l. flips_moved t mask p q (slice_index_or es i d) (fs i d l, gs i d l, ss i d l)))

@@ -50,8 +50,10 @@ pub fn classify2(
     Ok(Split2 { inside, outside })
 }
 
-// The parities at the inner points of the regions, in order.
-fn parities_of(
+/// The parities of `s` at the inner points of the regions, in order. The table `c` may have half-spaces that `s` has not.
+///
+/// `Memory` where there is no room. The time grows as the regions times the elements.
+pub fn parities_of(
     alloc: Global,
     s: &Profile,
     c: &CurveTable,

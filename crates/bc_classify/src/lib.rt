@@ -14,9 +14,10 @@ mod region_parity;
 mod split2;
 mod split3;
 
-pub use classify_candidates::classify2;
+pub use classify_candidates::{classify2, parities_of};
 pub use classify_cells::classify3;
 pub use odd_mask::odd_mask2;
+pub use region_parity::RegionParity;
 pub use split2::{Marked2, Split2};
 pub use split3::{Marked3, Split3};
 

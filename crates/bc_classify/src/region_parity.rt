@@ -11,12 +11,12 @@ use bc_parity::straight_odd2;
 use bc_solid::Profile;
 
 /// What the candidates of a region share.
-#[derive(Clone, Copy)]
-pub(crate) struct RegionParity {
+#[derive(Clone, Copy, Debug)]
+pub struct RegionParity {
     /// Whether the ray from the region crosses the edges and chords an odd number of times.
-    straight: bool,
+    pub straight: bool,
     /// The bits of the discs that flip the parity: full circles, and arcs on whose side of the chord the region is.
-    flips: u64,
+    pub flips: u64,
 }
 
 impl RegionParity {
@@ -32,8 +32,8 @@ impl RegionParity {
         }
     }
 
-    /// Whether the mask is odd.
-    pub(crate) fn is_odd(&self, mask: u64) -> bool
+    /// Whether the mask is odd. No memory is taken.
+    pub fn is_odd(&self, mask: u64) -> bool
         ensures { result ≡ told self.now mask }
     {
         self.straight != overlaps_oddly(mask, self.flips)
