@@ -24,6 +24,7 @@ use Rattle.bc_solid.specs.declared.element.Element.TheVariants.{Edge, Arc}
 use Rattle.bc_solid.specs.HalfSpaces.{IsOff}
 use Rattle.bc_solid.specs.Closed.{IsProper}
 use Rattle.bc_parity.specs.Odd.{is_odd_at, Odd}
+use Rattle.bc_parity.specs.Laws.{StraightCellLaw}
 use Rattle.bc_natural.specs.Curves.{Curves, AreCurves, lines_of, is_arc, IsDiscOf}
 use Rattle.bc_natural.specs.Masks.{curve_mask}
 use Rattle.bc_natural.proofs.Masks.{same_parts, mask_below}
@@ -33,7 +34,7 @@ use Rattle.bc_cells.specs.Cells.{AreCells, HasCorners}
 use Rattle.bc_cells.proofs.Masks.{same_sides, mask_alike}
 use Rattle.bc_discs.specs.declared.candidate.Candidate.{Candidate}
 use Rattle.bc_discs.specs.Samples.{IsSample, IsSeen}
-use Rattle.bc_discs.specs.Candidates.{Region, IsCandidate, AreCandidates}
+use Rattle.bc_discs.specs.Candidates.{Region, IsKept, mask_with, IsCandidate, AreCandidates}
 use Rattle.bc_discs.specs.Laws.{IsRegion}
 use Rattle.bc_discs.proofs.Between.{sample_law}
 use Rattle.bc_discs.proofs.Shown.{seen_law}
@@ -41,7 +42,7 @@ use Rattle.bc_classify.specs.declared.split2.Marked2.{Marked2}
 use Rattle.bc_classify.specs.OddMasks.{is_odd_mask, is_odd_in, is_odd_candidate}
 use Rattle.bc_classify.specs.declared.split2.Split2.{Split2}
 use Rattle.bc_classify.specs.Splits.{marked, IsSplit, OddMaskLaw}
-use Rattle.bc_classify.proofs.Parities.{table_is}
+use Rattle.bc_classify.proofs.Parities.{table_is, region_parity}
 use Rattle.bc_classify.proofs.Halves.{IsTable, clear_from_off}
 use Rattle.bc_text.specs.declared.note.Spot.{Spot}
 use Rattle.bc_text.specs.declared.note.Spot.TheVariants.{Flat}
@@ -54,52 +55,16 @@ use Rattle.bc_formula.specs.ContourPoints.{IsSampleOf, IsCandidateMask, HasArc}
 use Rattle.bc_formula.specs.Notes.{IsFreePoint}
 use Rattle.bc_formula.specs.Shown.{masks_of, IsShownAt, AreShown, AreParts}
 use Rattle.bc_formula.specs.ContourDivision.{shown2}
-use Rattle.bc_formula.proofs.Mapped.{at_place}
+use Rattle.bc_formula.proofs.Mapped.{at_place, contains_at}
+use Rattle.bc_formula.proofs.TwoLists.{any_contained}
 use Rattle.bc_formula.proofs.ContourMasks.{above_walls}
+use Rattle.bc_formula.proofs.SameRegions.{sample_moves, kept_moves}
 use Rattle.bc_formula.proofs.ContourPoints.{inside_of, disc_factor, off_from_clear}
 
 -- a mark with a point as it stands in notes
 seen_case : (o : Option P2) (spot : Spot) → option_map Flat o ≡ Some spot → (q : P2) × (o ≡ Some q) × (spot ≡ Flat q)
 seen_case None spot f = cc
 seen_case (Some q) spot f = (q, refl, sym (same_Some (Flat q) spot f))
-
--- ---- a sample of the region of a free point is one of each region of the same mask
-
-module _ (b : Box2) (ls : List Line2) (q : P2) (free : IsFree line_side (walls2 b) ls q) (corners : List P2) (has : HasCorners line_side met2 2 (walls2 b) ls q corners) (u : Region) (other : IsRegion b ls u) (same : mask_of line_side ls q ≡ u.mask) where
-  corner_moves : (c : P2) → IsCorner line_side met2 2 (walls2 b) ls q c → IsCorner line_side met2 2 (walls2 b) ls u.inner c
-  corner_moves c k =
-      let sides = same_sides line_side ls q u.inner free.off other.free.off (same ∙ sym other.of_mask) in
-      record {
-        meet = k.meet;
-        region = record {
-          within = k.region.within;
-          above = λ i d l e. k.region.above i d l (sides i d l ∙ e);
-          below = λ i d l e. k.region.below i d l (sides i d l ∙ e);
-        };
-      }
-
-  corner_listed : (c : P2) → Contains corners c → Contains u.corners c
-  corner_listed c h = (other.region.exact c).1 (corner_moves c ((has.exact c).0 h))
-
-  sample_moves : (s : P2) → IsSample corners s → IsSample u.corners s
-  sample_moves s o = record {
-    c1 = o.c1;
-    c2 = o.c2;
-    c3 = o.c3;
-    has_first = corner_listed o.c1 o.has_first;
-    has_second = corner_listed o.c2 o.has_second;
-    has_third = corner_listed o.c3 o.has_third;
-    differ_12 = o.differ_12;
-    differ_23 = o.differ_23;
-    differ_13 = o.differ_13;
-    i = o.i;
-    j = o.j;
-    k = o.k;
-    weights = o.weights;
-    x = o.x;
-    y = o.y;
-    w = o.w;
-  }
 
 module _ (es : List Element) (b : Box2) (t : Curves) (regions : List Region) (all : List Candidate)
     (of_input : AreCurves es t) (table : IsTable es t) (proper : All IsProper es) (law : OddMaskLaw es t)
@@ -282,6 +247,49 @@ module _ (es : List Element) (b : Box2) (t : Curves) (regions : List Region) (al
   pub outside_masks : All (λ (m : Shown). IsCandidateMask es b false m.mask) (map shown2 (map marked (filter (λ c. not (is_odd_candidate es t regions c)) all)))
   outside_masks = masks_passing (λ c. not (is_odd_candidate es t regions c)) (λ (m : Shown). IsCandidateMask es b false m.mask) (λ c h yes. mask_of_candidate false c h (not_true (is_odd_candidate es t regions c) yes))
 
+  -- ---- each mask of a candidate, odd or even, is that of one of these
+
+  module _ (straight : StraightCellLaw es) where
+    region_listed : (odd : Bool) (r : Region) → IsRegion b (lines_of t) r → (set : ℕ) → set < 2 ^ length t.discs → IsKept b (lines_of t) t.discs r set
+        → (mask : ℕ) → mask ≡ mask_with (lines_of t) r set → is_odd_mask es t r.inner mask ≡ odd → (c : Candidate) × Contains all c × (c.mask ≡ mask) × (is_odd_candidate es t regions c ≡ odd)
+    region_listed odd r cell set below kept mask of_mask parity =
+        let some = cells.some r.inner cell.free in
+        let u = some.1 in
+        let at = contains_at regions some.1 (some.0, some.2, some.3) in
+        let other = region_at at.0 some.1 at.1 in
+        let same : r.mask ≡ some.1.mask = sym (some.4 ∙ cell.of_mask) in
+        let of_u : mask ≡ mask_with (lines_of t) some.1 set = of_mask ∙ ap (λ m. m + 2 ^ length (lines_of t) * set) same in
+        let a = cand.every at.0 some.1 set at.1 below (kept_moves b (lines_of t) r some.1 cell other same t.discs set kept) in
+        let c = any_contained (λ c. (c.region ≡ at.0) × (c.mask ≡ mask_with (lines_of t) some.1 set)) all a in
+        let in_u : is_odd_candidate es t regions c.0 ≡ is_odd_mask es t some.1.inner c.0.mask = ap (λ i. is_odd_in es t c.0.mask (slice_get regions i)) c.2.0 ∙ ap (is_odd_in es t c.0.mask) at.1 in (
+          c.0,
+          c.1,
+          c.2.1 ∙ sym of_u,
+          in_u ∙ ap (is_odd_mask es t some.1.inner) (c.2.1 ∙ sym of_u)
+              ∙ sym (region_parity es t of_input proper straight r.inner some.1.inner cell.free.off other.free.off (cell.of_mask ∙ same ∙ sym other.of_mask) mask) ∙ parity,
+        )
+
+    mask_listed : (odd : Bool) (mask : ℕ) → IsCandidateMask es b odd mask → (c : Candidate) × Contains all c × (c.mask ≡ mask) × (is_odd_candidate es t regions c ≡ odd)
+    mask_listed odd mask o =
+        let F : Curves → Type 0 = λ u. (r : Region) → IsRegion b (lines_of u) r → (set : ℕ) → set < 2 ^ length u.discs → IsKept b (lines_of u) u.discs r set
+        → (mask : ℕ) → mask ≡ mask_with (lines_of u) r set → is_odd_mask es u r.inner mask ≡ odd → (c : Candidate) × Contains all c × (c.mask ≡ mask) × (is_odd_candidate es t regions c ≡ odd) in
+        subst F (sym (one_table es o.table t o.of_input of_input)) (region_listed odd) o.region o.is_region o.set o.below o.kept mask o.of_mask o.parity
+
+    passing_listed : (f : Candidate → Bool) (c : Candidate) → Contains all c → f c ≡ true → Contains (masks_of (map shown2 (map marked (filter f all)))) c.mask
+    passing_listed f c h passed =
+        contains_mapped (λ (m : Shown). m.mask) (map shown2 (map marked (filter f all))) (shown2 (marked c))
+        (contains_mapped shown2 (map marked (filter f all)) (marked c) (contains_mapped marked (filter f all) c (filtered f all c h passed)))
+
+    pub every_inside : (mask : ℕ) → IsCandidateMask es b true mask → Contains (masks_of (map shown2 (map marked (filter (is_odd_candidate es t regions) all)))) mask
+    every_inside mask o =
+        let c = mask_listed true mask o in
+        subst (Contains (masks_of (map shown2 (map marked (filter (is_odd_candidate es t regions) all))))) c.2 (passing_listed (is_odd_candidate es t regions) c.0 c.1 c.3)
+
+    pub every_outside : (mask : ℕ) → IsCandidateMask es b false mask → Contains (masks_of (map shown2 (map marked (filter (λ c. not (is_odd_candidate es t regions c)) all)))) mask
+    every_outside mask o =
+        let c = mask_listed false mask o in
+        subst (Contains (masks_of (map shown2 (map marked (filter (λ c. not (is_odd_candidate es t regions c)) all))))) c.2 (passing_listed (λ c. not (is_odd_candidate es t regions c)) c.0 c.1 (ap not c.3))
+
 -- ---- all together
 
 pub marks_masks : (ms : List Marked2) → masks_of (map shown2 ms) ≡ map (λ (m : Marked2). m.mask) ms
@@ -289,18 +297,20 @@ marks_masks [] = refl
 marks_masks (m ∷ ms) = ap (λ ns. m.mask ∷ ns) (marks_masks ms)
 
 pub contour_parts : (es : List Element) (b : Box2) (t : Curves) (regions : List Region) (all : List Candidate) (s : Split2)
-    → AreCurves es t → All IsProper es → OddMaskLaw es t
+    → AreCurves es t → All IsProper es → OddMaskLaw es t → StraightCellLaw es
     → AreCells IsSmallPoint line_side met2 2 (walls2 b) (lines_of t) regions
     → AreCandidates b (lines_of t) t.discs regions all
     → IsSplit es t regions all s
     → AreParts contours es b (curve_mask t) (map shown2 s.inside) (map shown2 s.outside)
-contour_parts es b t regions all s of_input proper law cells cand is =
+contour_parts es b t regions all s of_input proper law straight cells cand is =
     let table = table_is es t of_input in
     record {
       inside_shown = subst (AreShown contours es b (curve_mask t) (Odd es)) (sym (ap (map shown2) is.inside)) (inside_shown es b t regions all of_input table proper law cells cand);
       outside_shown = subst (AreShown contours es b (curve_mask t) (λ p. Odd es p → ⊥)) (sym (ap (map shown2) is.outside)) (outside_shown es b t regions all of_input table proper law cells cand);
       inside_masks = subst (All (λ (m : Shown). IsCandidateMask es b true m.mask)) (sym (ap (map shown2) is.inside)) (inside_masks es b t regions all of_input table proper law cells cand);
       outside_masks = subst (All (λ (m : Shown). IsCandidateMask es b false m.mask)) (sym (ap (map shown2) is.outside)) (outside_masks es b t regions all of_input table proper law cells cand);
+      every_inside = subst (λ (ms : List Shown). (mask : ℕ) → IsCandidateMask es b true mask → Contains (masks_of ms) mask) (sym (ap (map shown2) is.inside)) (every_inside es b t regions all of_input table proper law cells cand straight);
+      every_outside = subst (λ (ms : List Shown). (mask : ℕ) → IsCandidateMask es b false mask → Contains (masks_of ms) mask) (sym (ap (map shown2) is.outside)) (every_outside es b t regions all of_input table proper law cells cand straight);
     }
 
 -- each leaf is a strip or a disc

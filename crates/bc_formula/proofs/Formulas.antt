@@ -8,7 +8,8 @@ use Rattle.bc_cover.specs.declared.term.Term.{Term}
 use Rattle.bc_cover.specs.Covers.{Holds, Precedes, IsCover}
 use Rattle.bc_tree.specs.declared.tree.Leaf.{Leaf}
 use Rattle.bc_tree.specs.Shape.{Shape, shape, union, shapes_of}
-use Rattle.bc_tree.specs.Cuts.{Product, product_shape, products_shape, product_of, cover_shape}
+use Rattle.bc_tree.specs.declared.product.Product.{Product}
+use Rattle.bc_tree.specs.Cuts.{product_shape, products_shape, product_of, cover_shape}
 use Rattle.bc_tree.specs.Spells.{IsAllowed}
 use Rattle.bc_tree.proofs.CoverHolds.{cover_holds, cover_in_block}
 use Rattle.bc_formula.specs.declared.terms.Formula.{Formula}

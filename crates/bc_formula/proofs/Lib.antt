@@ -1,9 +1,11 @@
 pub mod Described
 pub mod Formulas
+pub mod Counted
 mod Mapped
 mod ContourLeaves
 mod ContourMasks
 mod ContourPoints
+mod SameRegions
 mod ContourNotes
 mod MeshLeaves
 mod MeshMasks

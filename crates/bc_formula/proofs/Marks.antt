@@ -10,7 +10,8 @@ use Rattle.bc_cover.specs.declared.term.Term.{Term}
 use Rattle.bc_cover.specs.Masks.{without_bit}
 use Rattle.bc_cover.specs.Covers.{Holds, Literal, positive, negative, without, IsBlock, IsCover}
 use Rattle.bc_tree.specs.declared.tree.Leaf.{Leaf}
-use Rattle.bc_tree.specs.Cuts.{Product, product_of}
+use Rattle.bc_tree.specs.declared.product.Product.{Product}
+use Rattle.bc_tree.specs.Cuts.{product_of}
 use Rattle.bc_tree.proofs.CoverHolds.{cover_holds}
 use Rattle.bc_text.specs.declared.note.Spot.{Spot}
 use Rattle.bc_text.specs.declared.note.Mark.{Mark}

@@ -1,5 +1,5 @@
 -- The cells of a mesh show the masks of each parity: the inner point of each, in lowest terms.
-use Rattle.std.proofs.Common.{◌≡◌, Bool, true, false, not, List, [], ◌∷◌, map, get_or, None, refl, sym, ap, subst, ◌∙◌}
+use Rattle.std.proofs.Common.{◌≡◌, ℕ, Bool, true, false, not, List, [], ◌∷◌, map, get_or, None, refl, sym, ap, subst, ◌∙◌}
 use Rattle.std.specs.Prelude.{slice_index_or, filter}
 use Rattle.std.specs.List.{All, Contains}
 use Rattle.std.proofs.lemmas.Option.{same_Some}
@@ -24,7 +24,7 @@ use Rattle.bc_parity.specs.Faces.{is_odd3_at, Odd3}
 use Rattle.bc_natural.specs.Planes.{Planes, planes_of, ArePlanes, plane_mask}
 use Rattle.bc_natural.proofs.Table.{contains_mapped}
 use Rattle.bc_natural.proofs.FirstSeen.{filtered}
-use Rattle.bc_natural.proofs.PlaneTables.{off_planes, off_faces}
+use Rattle.bc_natural.proofs.PlaneTables.{off_planes, off_faces, one_plane_table}
 use Rattle.bc_cells.specs.Cells.{AreCells, IsCell}
 use Rattle.bc_cells.proofs.Masks.{mask_alike}
 use Rattle.bc_classify.specs.declared.split3.Marked3.{Marked3}
@@ -179,6 +179,30 @@ module _ (fs : List Facet) (b : Box3) (t : Planes) (cells : List Cell3) (table :
   pub outside_masks3 : All (λ (m : Shown). IsCellMask fs b false m.mask) (map shown3 (map marked3 (filter (λ c. not (is_odd3_at fs c.inner)) cells)))
   outside_masks3 = masks_passing (λ c. not (is_odd3_at fs c.inner)) (λ (m : Shown). IsCellMask fs b false m.mask) (λ c h yes. mask_of_cell false c h (not_true (is_odd3_at fs c.inner) yes))
 
+  -- ---- each mask of a cell, odd or even, is that of one of these
+
+  cell_listed : (odd : Bool) (mask : ℕ) → IsCellMask fs b odd mask → (c : Cell3) × Contains cells c × (c.mask ≡ mask) × (is_odd3_at fs c.inner ≡ odd)
+  cell_listed odd mask o =
+      let a = are.some o.inner (record { inside = above_walls3 b o.inner o.inside; off = off_planes fs t o.inner table o.off }) in
+      let h : Contains cells a.1 = (a.0, a.2, a.3) in
+      let is : mask ≡ plane_mask t o.inner = o.of_mask ∙ ap (λ (u : Planes). plane_mask u o.inner) (one_plane_table fs o.table t o.of_input table) in
+      (a.1, h, a.4 ∙ sym is, odd_is a.1 o.inner h o.off a.4 ∙ o.parity)
+
+  passing_listed : (f : Cell3 → Bool) (c : Cell3) → Contains cells c → f c ≡ true → Contains (masks_of (map shown3 (map marked3 (filter f cells)))) c.mask
+  passing_listed f c h passed =
+      contains_mapped (λ (m : Shown). m.mask) (map shown3 (map marked3 (filter f cells))) (shown3 (marked3 c))
+      (contains_mapped shown3 (map marked3 (filter f cells)) (marked3 c) (contains_mapped marked3 (filter f cells) c (filtered f cells c h passed)))
+
+  pub every_inside3 : (mask : ℕ) → IsCellMask fs b true mask → Contains (masks_of (map shown3 (map marked3 (filter (λ c. is_odd3_at fs c.inner) cells)))) mask
+  every_inside3 mask o =
+      let c = cell_listed true mask o in
+      subst (Contains (masks_of (map shown3 (map marked3 (filter (λ c. is_odd3_at fs c.inner) cells))))) c.2 (passing_listed (λ c. is_odd3_at fs c.inner) c.0 c.1 c.3)
+
+  pub every_outside3 : (mask : ℕ) → IsCellMask fs b false mask → Contains (masks_of (map shown3 (map marked3 (filter (λ c. not (is_odd3_at fs c.inner)) cells)))) mask
+  every_outside3 mask o =
+      let c = cell_listed false mask o in
+      subst (Contains (masks_of (map shown3 (map marked3 (filter (λ c. not (is_odd3_at fs c.inner)) cells))))) c.2 (passing_listed (λ c. not (is_odd3_at fs c.inner)) c.0 c.1 (ap not c.3))
+
 -- ---- all together
 
 pub marks_masks3 : (ms : List Marked3) → masks_of (map shown3 ms) ≡ map (λ (m : Marked3). m.mask) ms
@@ -194,6 +218,8 @@ mesh_parts fs b t cells s table law are is = record {
   outside_shown = subst (AreShown meshes fs b (plane_mask t) (λ p. Odd3 fs p → ⊥)) (sym (ap (map shown3) is.outside)) (outside_shown3 fs b t cells table law are);
   inside_masks = subst (All (λ (m : Shown). IsCellMask fs b true m.mask)) (sym (ap (map shown3) is.inside)) (inside_masks3 fs b t cells table law are);
   outside_masks = subst (All (λ (m : Shown). IsCellMask fs b false m.mask)) (sym (ap (map shown3) is.outside)) (outside_masks3 fs b t cells table law are);
+  every_inside = subst (λ (ms : List Shown). (mask : ℕ) → IsCellMask fs b true mask → Contains (masks_of ms) mask) (sym (ap (map shown3) is.inside)) (every_inside3 fs b t cells table law are);
+  every_outside = subst (λ (ms : List Shown). (mask : ℕ) → IsCellMask fs b false mask → Contains (masks_of ms) mask) (sym (ap (map shown3) is.outside)) (every_outside3 fs b t cells table law are);
 }
 
 -- the marks' points are those of the cells

@@ -6,7 +6,8 @@ use Rattle.std.proofs.lemmas.List.Elements.{All-cons, All-nil, All-map}
 use Rattle.bc_cover.specs.declared.term.Term.{Term}
 use Rattle.bc_cover.specs.Covers.{Holds, Literal, without, IsBlock, IsCover}
 use Rattle.bc_tree.specs.declared.tree.Leaf.{Leaf}
-use Rattle.bc_tree.specs.Cuts.{Product, product_of}
+use Rattle.bc_tree.specs.declared.product.Product.{Product}
+use Rattle.bc_tree.specs.Cuts.{product_of}
 use Rattle.bc_text.specs.declared.note.Note.{Note}
 use Rattle.bc_notes.specs.declared.shown.Shown.{Shown}
 use Rattle.bc_notes.specs.Nodes.{Node, is_half_space}

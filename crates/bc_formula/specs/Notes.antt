@@ -5,7 +5,8 @@ use Rattle.std.specs.List.{All, AllZip}
 use Rattle.bc_cover.specs.Covers.{Literal}
 use Rattle.bc_tree.specs.declared.tree.Leaf.{Leaf}
 use Rattle.bc_tree.specs.Holds.{HoldsBy}
-use Rattle.bc_tree.specs.Cuts.{Product, product_shape, products_shape}
+use Rattle.bc_tree.specs.declared.product.Product.{Product}
+use Rattle.bc_tree.specs.Cuts.{product_shape, products_shape}
 use Rattle.bc_text.specs.declared.note.Spot.{Spot}
 use Rattle.bc_text.specs.declared.note.Mark.{Mark}
 use Rattle.bc_text.specs.declared.note.Note.{Note}

@@ -1,6 +1,6 @@
 -- What is known of the masks of a boundary and of the points that show them.
 use Rattle.std.specs.Prelude.{◌≡◌, ◌≢◌, ◌↔◌, ℕ, true, false, List, map, None, Some, slice_get}
-use Rattle.std.specs.List.{All, Any}
+use Rattle.std.specs.List.{All, Any, Contains}
 use Rattle.std.specs.Int.{bit_at}
 use Rattle.bc_tree.specs.declared.tree.Leaf.{Leaf}
 use Rattle.bc_text.specs.declared.note.Spot.{Spot}
@@ -29,9 +29,11 @@ pub record AreShown {B P X : Type 0} (k : Geometry B P X) (b : B) (box : X) (mas
   pub every : (p : P) → IsFreePoint k b box p → k.named b box p → Right p → Any (λ (m : Shown). (m.mask ≡ mask_at p) × (m.spot ≢ None)) ms
   pub failed : All (λ (m : Shown). m.spot ≡ None → k.may_fail b) ms
 
--- the odd masks and the even ones, with the points that show them
+-- the odd masks and the even ones, each of them, with the points that show them
 pub record AreParts {B P X : Type 0} (k : Geometry B P X) (b : B) (box : X) (mask_at : P → ℕ) (inside outside : List Shown) : Type 0 where
   pub inside_shown : AreShown k b box mask_at (k.odd b) inside
   pub outside_shown : AreShown k b box mask_at (λ p. k.odd b p → ⊥) outside
   pub inside_masks : All (λ (m : Shown). k.has_mask b box true m.mask) inside
   pub outside_masks : All (λ (m : Shown). k.has_mask b box false m.mask) outside
+  pub every_inside : (mask : ℕ) → k.has_mask b box true mask → Contains (masks_of inside) mask
+  pub every_outside : (mask : ℕ) → k.has_mask b box false mask → Contains (masks_of outside) mask

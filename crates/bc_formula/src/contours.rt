@@ -22,7 +22,7 @@ use bc_discs::candidates;
 use bc_natural::{CurveTable, NatFault, box2, curves};
 use bc_notes::Shown;
 use bc_num::{Box2, List, Memory, P2, V2};
-use bc_parity::laws::outside_law2;
+use bc_parity::laws::{outside_law2, straight_cell_law};
 use bc_solid::Profile;
 use bc_space::{Flat, Line2};
 use bc_text::{Head, Spot};
@@ -74,6 +74,7 @@ fn divide(
     let split = classify2(alloc, profile, table, &regions, &all)?;
     profile.law();
     odd_mask_law(profile, table);
+    straight_cell_law(profile);
     Ok(Parts {
         inside: shown(alloc, split.inside.as_slice())?,
         outside: shown(alloc, split.outside.as_slice())?,

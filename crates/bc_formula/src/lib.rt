@@ -5,6 +5,7 @@
 
 mod contours;
 mod meshes;
+mod tally;
 mod terms;
 
 pub use contours::{contour_division, contour_formula};
