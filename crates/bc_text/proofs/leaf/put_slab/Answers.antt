@@ -1,7 +1,0 @@
-use Rattle.bc_io.proofs.Grown.{behind}
-use Rattle.bc_text.proofs.leaf.put_slab.Goals as goal
-
-pub returns : goal.returns
-returns g c =
-    let m = rw (c.u.ensures, c.v.ensures) at c.put_columns.ensures in
-    behind m (behind c.put_translate.ensures c.put_cube.ensures)
