@@ -1,0 +1,5 @@
+pub mod ClosedTests
+pub mod Few
+pub mod InputTests
+pub mod Rows
+pub mod Examples
