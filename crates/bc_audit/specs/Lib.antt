@@ -1,0 +1,5 @@
+pub mod SlabPlanes
+pub mod Told
+pub mod Blocks
+pub mod Audits
+pub mod Compared
