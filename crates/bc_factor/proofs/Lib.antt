@@ -1,0 +1,7 @@
+mod Bits
+mod InCommon
+mod Choice
+pub mod Meaning
+pub mod Leaves
+pub mod Allowed
+mod Trees
