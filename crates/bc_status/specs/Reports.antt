@@ -16,8 +16,10 @@ use Rattle.bc_gcode.specs.declared.fault.GFault.{GFault}
 use Rattle.bc_gcode.specs.declared.fault.GFault.TheVariants as grammar
 use Rattle.bc_natural.specs.declared.nat_fault.NatFault.{NatFault}
 use Rattle.bc_natural.specs.declared.nat_fault.NatFault.TheVariants as limits
+use Rattle.bc_read.specs.declared.fault.CsgFault.{CsgFault}
+use Rattle.bc_read.specs.declared.fault.CsgFault.TheVariants as reading
 use Rattle.bc_status.specs.declared.status.Refusal.{Refusal}
-use Rattle.bc_status.specs.declared.status.Refusal.TheVariants.{PointTooFine, PointOffPlane, TooLong, Off, G, Mesh, Contour, Limit}
+use Rattle.bc_status.specs.declared.status.Refusal.TheVariants.{PointTooFine, PointOffPlane, TooLong, Off, G, Mesh, Contour, Limit, Csg}
 use Rattle.bc_status.specs.declared.status.Status.{Status}
 use Rattle.bc_status.specs.declared.status.Status.TheVariants.{Done, Refused, Usage, ReadFault, WriteFault, Memory}
 
@@ -30,6 +32,9 @@ at_line name line = name ++ (codes " line " ++ decimal line)
 abbrev pub at_word : List ℕ → ℕ → ℕ → List ℕ
 at_word name line zero = at_line name line
 at_word name line (suc word) = at_line name line ++ (codes " word " ++ decimal (suc word))
+
+abbrev pub at_token : List ℕ → ℕ → ℕ → List ℕ
+at_token name line token = at_line name line ++ (codes " token " ++ decimal token)
 
 abbrev pub at_face : List ℕ → ℕ → List ℕ
 at_face name face = name ++ (codes " face " ++ decimal face)
@@ -104,6 +109,16 @@ of_limit (limits.TooManyLines n) = counted (codes "TooManyLines") n
 of_limit (limits.TooManyDiscs n) = counted (codes "TooManyDiscs") n
 of_limit limits.Memory = codes "Memory"
 
+abbrev pub of_csg : CsgFault → List ℕ
+of_csg (reading.BadToken line token) = at_token (codes "BadToken") line token
+of_csg (reading.BadShape line token) = at_token (codes "BadShape") line token
+of_csg (reading.BadNumber line token) = at_token (codes "BadNumber") line token
+of_csg (reading.BadFrame line token) = at_token (codes "BadFrame") line token
+of_csg (reading.Mixed line token) = at_token (codes "Mixed") line token
+of_csg (reading.TooDeep line token) = at_token (codes "TooDeep") line token
+of_csg (reading.Extra line token) = at_token (codes "Extra") line token
+of_csg reading.Memory = codes "Memory"
+
 abbrev pub said : Refusal → List ℕ
 said PointTooFine = codes "PointTooFine"
 said PointOffPlane = codes "PointOffPlane"
@@ -113,6 +128,7 @@ said (G f) = of_grammar f
 said (Mesh f) = of_mesh f
 said (Contour f) = of_contours f
 said (Limit f) = of_limit f
+said (Csg f) = of_csg f
 
 -- ---- the line of a status
 

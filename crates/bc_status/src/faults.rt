@@ -1,17 +1,22 @@
 //! What becomes of the faults of the crates below: want of memory is a status of its own, and every other fault is refused.
+ghost use Rattle.std.specs.Prelude.{◌≡◌};
 ghost use Rattle.bc_status.specs.Faults.{Becomes, IsEndOfReading};
+ghost use Rattle.bc_status.specs.declared.status.Status.TheVariants.{Refused, Memory};
 ghost use Rattle.bc_status.specs.declared.status.Refusal.TheVariants as refusals;
 ghost use Rattle.bc_gcode.specs.declared.fault.GFault.TheVariants as grammar;
 ghost use Rattle.bc_off.specs.declared.fault.OffFault.TheVariants as words;
 ghost use Rattle.bc_solid.specs.declared.contour_fault.ContourFault.TheVariants as closing;
 ghost use Rattle.bc_solid.specs.declared.mesh_fault.MeshFault.TheVariants as mesh;
 ghost use Rattle.bc_natural.specs.declared.nat_fault.NatFault.TheVariants as limits;
+ghost use Rattle.bc_read.specs.declared.fault.CsgFault.TheVariants as csg;
 
 use crate::{Refusal, Status};
 use bc_gcode::GFault;
 use bc_io::ReadEnd;
 use bc_natural::NatFault;
+use bc_num::Memory as NoMemory;
 use bc_off::OffFault;
+use bc_read::CsgFault;
 use bc_solid::{ContourFault, MeshFault};
 
 impl From<ReadEnd> for Status {
@@ -78,5 +83,32 @@ impl From<NatFault> for Status {
             NatFault::Memory => Status::Memory,
             fault => Status::Refused(Refusal::Limit(fault)),
         }
+    }
+}
+
+impl From<CsgFault> for Status {
+    ghost from_gives = { Becomes csg.Memory refusals.Csg };
+
+    fn from(fault: CsgFault) -> Status {
+        match fault {
+            CsgFault::Memory => Status::Memory,
+            fault => Status::Refused(Refusal::Csg(fault)),
+        }
+    }
+}
+
+impl From<Refusal> for Status {
+    ghost from_gives = { λ f s. s ≡ Refused f };
+
+    fn from(refusal: Refusal) -> Status {
+        Status::Refused(refusal)
+    }
+}
+
+impl From<NoMemory> for Status {
+    ghost from_gives = { λ _ s. s ≡ Memory };
+
+    fn from(_: NoMemory) -> Status {
+        Status::Memory
     }
 }

@@ -1,6 +1,6 @@
 //! What is said of each refusal: a name, and where it is or what it counts.
 ghost use Rattle.bc_io.specs.Growing.{GrewBy};
-ghost use Rattle.bc_status.specs.Reports.{at_line, at_word, at_face, at_place, counted, open_words, skew_words, edge_words, corner_words, of_grammar, of_text, of_contours, of_mesh, of_limit, said};
+ghost use Rattle.bc_status.specs.Reports.{at_line, at_word, at_token, at_face, at_place, counted, open_words, skew_words, edge_words, corner_words, of_grammar, of_text, of_contours, of_mesh, of_limit, of_csg, said};
 
 use crate::Refusal;
 use bc_gcode::GFault;
@@ -8,6 +8,7 @@ use bc_io::{Pen, Sink};
 use bc_natural::NatFault;
 use bc_num::{V2, V3};
 use bc_off::OffFault;
+use bc_read::CsgFault;
 use bc_solid::{ContourFault, MeshFault};
 
 fn put_at_line<K: Sink>(pen: &mut Pen<K>, name: &[u8], line: u32)
@@ -25,6 +26,13 @@ fn put_at_word<K: Sink>(pen: &mut Pen<K>, name: &[u8], line: u32, word: u32)
     if word > 0 {
         pen.put_next(b" word ", word);
     }
+}
+
+fn put_at_token<K: Sink>(pen: &mut Pen<K>, name: &[u8], line: u32, token: u32)
+    ensures { GrewBy K.held K.faults pen.old pen.new (at_token name.now line token) }
+{
+    put_at_line(pen, name, line);
+    pen.put_next(b" token ", token);
 }
 
 fn put_at_face<K: Sink>(pen: &mut Pen<K>, name: &[u8], face: u32)
@@ -158,6 +166,21 @@ fn put_limit<K: Sink>(pen: &mut Pen<K>, fault: &NatFault)
     }
 }
 
+fn put_csg<K: Sink>(pen: &mut Pen<K>, fault: &CsgFault)
+    ensures { GrewBy K.held K.faults pen.old pen.new (of_csg fault.now) }
+{
+    match fault {
+        CsgFault::BadToken { line, token } => put_at_token(pen, b"BadToken", *line, *token),
+        CsgFault::BadShape { line, token } => put_at_token(pen, b"BadShape", *line, *token),
+        CsgFault::BadNumber { line, token } => put_at_token(pen, b"BadNumber", *line, *token),
+        CsgFault::BadFrame { line, token } => put_at_token(pen, b"BadFrame", *line, *token),
+        CsgFault::Mixed { line, token } => put_at_token(pen, b"Mixed", *line, *token),
+        CsgFault::TooDeep { line, token } => put_at_token(pen, b"TooDeep", *line, *token),
+        CsgFault::Extra { line, token } => put_at_token(pen, b"Extra", *line, *token),
+        CsgFault::Memory => pen.put(b"Memory"),
+    }
+}
+
 /// What is said of a refusal.
 pub fn put_said<K: Sink>(pen: &mut Pen<K>, refusal: &Refusal)
     ensures { GrewBy K.held K.faults pen.old pen.new (said refusal.now) }
@@ -171,5 +194,6 @@ pub fn put_said<K: Sink>(pen: &mut Pen<K>, refusal: &Refusal)
         Refusal::Mesh(fault) => put_mesh(pen, fault),
         Refusal::Contour(fault) => put_contours(pen, fault),
         Refusal::Limit(fault) => put_limit(pen, fault),
+        Refusal::Csg(fault) => put_csg(pen, fault),
     }
 }

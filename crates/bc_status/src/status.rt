@@ -4,6 +4,7 @@ ghost use Rattle.bc_status.specs.Status.{code_of};
 use bc_gcode::GFault;
 use bc_natural::NatFault;
 use bc_off::OffFault;
+use bc_read::CsgFault;
 use bc_solid::{ContourFault, MeshFault};
 
 /// Why good words are not answered. Each command says which of these it may answer, and in which order they are looked for.
@@ -12,7 +13,7 @@ use bc_solid::{ContourFault, MeshFault};
 pub enum Refusal {
     /// A number of the point is past 2^60 in size, or its denominator is past 2^40.
     PointTooFine,
-    /// The point of a question about contours has a Z other than 0.
+    /// The point of a question about contours, or about a tree of plane leaves, has a Z other than 0.
     PointOffPlane,
     /// The text has more bytes than the command takes.
     TooLong,
@@ -26,6 +27,8 @@ pub enum Refusal {
     Contour(ContourFault),
     /// The boundary has more distinct planes, or more distinct lines or else discs, than a conversion takes.
     Limit(NatFault),
+    /// The text is not of the CSG grammar.
+    Csg(CsgFault),
 }
 
 /// How a run of the program ended.
