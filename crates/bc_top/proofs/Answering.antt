@@ -15,8 +15,7 @@ use Rattle.bc_top.specs.Commands.{Question, Request}
 use Rattle.bc_status.specs.Status.{IfUsage}
 use Rattle.bc_text.specs.declared.note.Note.{Note}
 use Rattle.bc_formula.specs.Geometry.{Geometry}
-use Rattle.bc_top.specs.declared.boundary.TheConstants.{MOST_BYTES}
-use Rattle.bc_top.specs.Texts.{Grammar, Questions, IsTooLong}
+use Rattle.bc_top.specs.Texts.{Grammar, Questions}
 use Rattle.bc_top.specs.Promises.{IsGood, Fulfils}
 use Rattle.bc_top.specs.Stages.{Stops, IsPut}
 use Rattle.bc_top.specs.Converts.{IsConvertRefusal, IsFormulaOf, converts}
@@ -27,7 +26,7 @@ use Rattle.bc_top.proofs.Fulfilled.{IsHonest, fulfils_put, fulfils_stop, fulfils
 
 -- what is known of texts: one that has a boundary has no fault, and one that is too long has that fault
 pub record IsTextSettled {B : Type 0} (g : Grammar B) : Type 0 where
-  pub too_long : (bytes : List ℕ) → MOST_BYTES < length bytes → g.fault bytes refusals.TooLong
+  pub too_long : (bytes : List ℕ) → g.most < length bytes → g.fault bytes refusals.TooLong
   pub no_fault : (bytes : List ℕ) (f : Refusal) (b : B) → g.fault bytes f → g.of_text bytes b → ⊥
 
 -- of their boundaries: a limit that one passes is one that it does not keep
@@ -38,15 +37,6 @@ pub record IsSettled {B P X : Type 0} (k : Geometry B P X) (g : Grammar B) : Typ
 -- and of questions: a point that is asked about is not refused
 pub record IsFair {P : Type 0} (a : Questions P) : Type 0 where
   pub no_point : (q : Question) (f : Refusal) (p : P) → a.unasked q f → a.asked q p → ⊥
-
--- a text that is too long, or one that could not be read
-pub stops_unread : {B : Type 0} (g : Grammar B) (settled : IsTextSettled g) (r : Reading) (s : Status) → Stops IsTooLong r s → Stops g.fault r s
-stops_unread g settled r (Refused f) (bytes, h, (e, more)) = (bytes, h, subst (g.fault bytes) (sym e) (settled.too_long bytes more))
-stops_unread g settled r ReadFault h = h
-stops_unread g settled r Memory h = tt
-stops_unread g settled r Done h = absurd h
-stops_unread g settled r WriteFault h = absurd h
-stops_unread g settled r Usage h = absurd h
 
 module _ {B P X : Type 0} (k : Geometry B P X) (g : Grammar B) (settled : IsSettled k g) where
   -- ---- convert
@@ -62,7 +52,7 @@ module _ {B P X : Type 0} (k : Geometry B P X) (g : Grammar B) (settled : IsSett
     no_early = λ bytes f h t. h;
   }
 
-  pub converts_stop : (s : Status) (r : Reading) (w : Writing) → Stops (IsConvertRefusal k g) r s → Keeps w.held w.grown → Fulfils (converts k g) s r w
+  pub converts_stop : (s : Status) (r : Reading) (w : Writing) → Stops g.most (IsConvertRefusal k g) r s → Keeps w.held w.grown → Fulfils (converts k g) s r w
   converts_stop s r w h e = fulfils_stop (converts k g) convert_honest s r w (λ f none. none) h e
 
   pub converts_put : (s : Status) (r : Reading) (w : Writing) (bytes : List ℕ) (head : Head) (box : X) (t : Shape) (notes : List Note) → IsRead r bytes → head ≡ k.head box → IsFormulaOf k g bytes box t notes → IsPut (layout head notes t) s w → Fulfils (converts k g) s r w
@@ -90,7 +80,7 @@ module _ {B P X : Type 0} (k : Geometry B P X) (g : Grammar B) (settled : IsSett
     sides_put q p s r w bytes text b is h o t put =
         fulfils_put (sides k g a q) (side_honest q) s r w bytes text (good q p is) h (record { boundary = b; of_bytes = o; point = p; asked = is; told = t }) put
 
-    pub sides_stop : (q : Question) (p : P) (s : Status) (r : Reading) (w : Writing) → a.asked q p → Stops g.fault r s → Keeps w.held w.grown → Fulfils (sides k g a q) s r w
+    pub sides_stop : (q : Question) (p : P) (s : Status) (r : Reading) (w : Writing) → a.asked q p → Stops g.most g.fault r s → Keeps w.held w.grown → Fulfils (sides k g a q) s r w
     sides_stop q p s r w is h e = fulfils_stop (sides k g a q) (side_honest q) s r w (good q p is) h e
 
     pub sides_early : (q : Question) (f : Refusal) (r : Reading) (w : Writing) → a.unasked q f → Keeps r.left r.rest → Keeps w.held w.grown → Fulfils (sides k g a q) (Refused f) r w

@@ -59,7 +59,7 @@ module _ {B P X : Type 0} (k : Geometry B P X) (g : Grammar B) (settled : IsSett
   refused_told : (s : Status) (r : Reading) (w : Writing) (bytes : List ℕ) → r.left ≡ Some bytes → Meets (converts k g) s r w → (f : Refusal) → s ≡ Refused f → IsConvertRefusal k g bytes f
   refused_told (Refused e) r w bytes is m f same = elim m.refused [
     | inl h ↦ absurd h.0
-    | inr h ↦ let one : e ≡ f = cc in subst (IsConvertRefusal k g bytes) one (subst (λ (o : Option (List ℕ)). IfSome o (λ xs. IsConvertRefusal k g xs e)) is (told (IsConvertRefusal k g) r e (λ xs more. (convert_honest k g settled).too_long xs more) h.1))
+    | inr h ↦ let one : e ≡ f = cc in subst (IsConvertRefusal k g bytes) one (subst (λ (o : Option (List ℕ)). IfSome o (λ xs. IsConvertRefusal k g xs e)) is (told g.most (IsConvertRefusal k g) r e (λ xs more. (convert_honest k g settled).too_long xs more) h.1))
   ]
   refused_told Done r w bytes e m f is = cc
   refused_told Usage r w bytes e m f is = cc

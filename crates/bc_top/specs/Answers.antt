@@ -6,7 +6,7 @@ use Rattle.bc_status.specs.declared.status.Status.TheVariants.{Usage}
 use Rattle.bc_top.specs.Streams.{Reading, Writing}
 use Rattle.bc_top.specs.declared.command.Kind.{Kind}
 use Rattle.bc_top.specs.declared.command.Kind.TheVariants.{Contour, Off}
-use Rattle.bc_top.specs.Commands.{Question, Request, convert, side}
+use Rattle.bc_top.specs.Commands.{Question, Request, convert, side, ask, trial, upgrade}
 use Rattle.bc_formula.specs.ContourGeometry.{contours}
 use Rattle.bc_formula.specs.MeshGeometry.{meshes}
 use Rattle.bc_top.specs.ContourTexts.{contour_texts, flat_points}
@@ -14,6 +14,9 @@ use Rattle.bc_top.specs.MeshTexts.{mesh_texts, space_points}
 use Rattle.bc_top.specs.Promises.{Promise, Fulfils}
 use Rattle.bc_top.specs.Converts.{converts}
 use Rattle.bc_top.specs.Sides.{sides}
+use Rattle.bc_top.specs.Asks.{asks}
+use Rattle.bc_top.specs.Trials.{trials}
+use Rattle.bc_top.specs.Upgrades.{upgrades}
 
 abbrev pub convert_promise : Kind → Promise
 convert_promise Contour = converts contours contour_texts
@@ -26,6 +29,9 @@ side_promise Off q = sides meshes mesh_texts space_points q
 abbrev pub promise_of : Request → Promise
 promise_of (convert k) = convert_promise k
 promise_of (side k q) = side_promise k q
+promise_of (ask q) = asks q
+promise_of (trial k n) = trials k n
+promise_of upgrade = upgrades
 
 -- words that are not in the table read and write nothing
 pub record IsUsage (s : Status) (r : Reading) (w : Writing) : Type 0 where

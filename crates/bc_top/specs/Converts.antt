@@ -36,6 +36,7 @@ pub record IsConvertible {B P X : Type 0} (k : Geometry B P X) (g : Grammar B) (
 abbrev pub converts : {B P X : Type 0} → Geometry B P X → Grammar B → Promise
 converts k g = record {
   input = source_bytes;
+  most = g.most;
   early = λ f. ⊥;
   fault = IsConvertRefusal k g;
   text = IsConverted k g;

@@ -28,7 +28,7 @@ use Rattle.bc_tree.specs.Holds.{Holds2, Holds3}
 use Rattle.bc_tree.specs.Spells.{Spells}
 use Rattle.bc_text.specs.declared.note.Head.TheVariants.{Contour, Solid}
 use Rattle.bc_text.specs.declared.note.Note.{Note}
-use Rattle.bc_text.specs.Layout.{layout, kind_line, box_line}
+use Rattle.bc_text.specs.Layout.{layout, kind_line, flat_box_line, solid_box_line}
 use Rattle.bc_formula.specs.ContourGeometry.{contours}
 use Rattle.bc_formula.specs.MeshGeometry.{meshes}
 use Rattle.bc_formula.specs.Headline.{IsNormal}
@@ -59,7 +59,7 @@ pub record IsContourText (es : List Element) (text : List ℕ) : Type 0 where
   pub box : Box2
   pub box_of : IsBoxOf es box
   pub more : List (List ℕ)
-  pub head : lines text ≡ kind_line (Contour box) ∷ (box_line (Contour box) ∷ more)
+  pub head : lines text ≡ kind_line (Contour box) ∷ (flat_box_line box ∷ more)
   -- at each rational point strictly inside the box and on no line or circle of the elements
   pub means : (p : P2) → IsInside box p → IsOff es p → (Holds2 tree p ↔ Odd es p)
   -- outside the closed box neither
@@ -102,7 +102,7 @@ pub record IsMeshText (fs : List Facet) (text : List ℕ) : Type 0 where
   pub box : Box3
   pub box_of : IsBoxOf3 fs box
   pub more : List (List ℕ)
-  pub head : lines text ≡ kind_line (Solid box) ∷ (box_line (Solid box) ∷ more)
+  pub head : lines text ≡ kind_line (Solid box) ∷ (solid_box_line box ∷ more)
   -- at each rational point strictly inside the box and on no plane of the faces
   pub means : (p : P3) → IsInside3 box p → IsOff3 fs p → (Holds3 tree p ↔ Odd3 fs p)
   -- outside the closed box neither

@@ -8,5 +8,10 @@ pub mod Stages
 pub mod Promises
 pub mod Converts
 pub mod Sides
+pub mod TreeTexts
+pub mod Asks
+pub mod Summaries
+pub mod Trials
+pub mod Upgrades
 pub mod Answers
 pub mod FrontPage

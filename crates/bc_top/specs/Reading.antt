@@ -1,6 +1,6 @@
 -- How the words of a command line stand in the program once they are read: a point that is too fine is known as such, and every
 -- other has its numbers.
-use Rattle.std.specs.Prelude.{◌≡◌, ◌<ℤ◌, ℕ, ℤ, pos, nat_abs, nat_lt, Option, None, Some, true, false, if◌then◌else◌}
+use Rattle.std.specs.Prelude.{◌≡◌, ◌≤◌, ◌<ℤ◌, ℕ, ℤ, pos, nat_abs, nat_lt, Option, None, Some, true, false, if◌then◌else◌}
 use Rattle.bc_algebra.specs.Within.{IsWithin}
 use Rattle.bc_top.specs.declared.command.TheConstants.{MOST_COORDINATE, MOST_DENOMINATOR}
 use Rattle.bc_top.specs.declared.command.Number.{Number}
@@ -8,8 +8,8 @@ use Rattle.bc_top.specs.declared.command.Number.TheVariants.{Fine, Past}
 use Rattle.bc_top.specs.declared.command.Query.{Query}
 use Rattle.bc_top.specs.declared.command.Query.TheVariants.{At, TooFine}
 use Rattle.bc_top.specs.declared.command.Command.{Command}
-use Rattle.bc_top.specs.declared.command.Command.TheVariants.{Convert, Side}
-use Rattle.bc_top.specs.Commands.{Question, is_too_fine, Request, convert, side}
+use Rattle.bc_top.specs.declared.command.Command.TheVariants.{Convert, Side, Ask, Trial, Upgrade}
+use Rattle.bc_top.specs.Commands.{Question, is_too_fine, Request, convert, side, ask, trial, upgrade, most_of}
 
 -- a number, unless it is past its bound
 abbrev pub number_of : ℕ → ℤ → Number
@@ -50,6 +50,9 @@ IsSoundQuery TooFine = Unit {0}
 abbrev pub IsSound : Command → Type 0
 IsSound (Convert k) = Unit {0}
 IsSound (Side k a) = IsSoundQuery a
+IsSound (Ask a) = IsSoundQuery a
+IsSound (Trial k n) = (1 ≤ n) × (n ≤ most_of k)
+IsSound Upgrade = Unit {0}
 
 abbrev pub ArePoint : Option Question → Option Query → Type 0
 ArePoint None None = Unit {0}
@@ -59,6 +62,9 @@ ArePoint _ _ = ⊥
 abbrev pub IsCommand : Request → Command → Type 0
 IsCommand (convert k) (Convert j) = j ≡ k
 IsCommand (side k q) (Side j a) = (j ≡ k) × IsQuery q a
+IsCommand (ask q) (Ask a) = IsQuery q a
+IsCommand (trial k n) (Trial j m) = (j ≡ k) × (m ≡ n)
+IsCommand upgrade Upgrade = Unit {0}
 IsCommand _ _ = ⊥
 
 abbrev pub AreRead : Option Request → Option Command → Type 0

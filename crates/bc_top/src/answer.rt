@@ -7,9 +7,12 @@ ghost use Rattle.bc_top.specs.FrontPage.{ContourHeadline, MeshHeadline};
 ghost use Rattle.bc_top.specs.Reading.{AreRead, IsSound};
 ghost use Rattle.bc_top.specs.Streams.{reading, writing};
 
+use crate::ask::ask;
 use crate::command::{Command, read_command};
 use crate::convert::convert;
 use crate::side::side;
+use crate::trial::trial;
+use crate::upgrade::upgrade;
 use bc_io::{Sink, Source};
 use bc_status::{Status, report};
 use std::alloc::Global;
@@ -29,6 +32,9 @@ fn answer<S: Source, O: Sink>(
         None => Status::Usage,
         Some(Command::Convert(kind)) => convert(alloc, *kind, source, out),
         Some(Command::Side(kind, query)) => side(alloc, *kind, query, source, out),
+        Some(Command::Ask(query)) => ask(alloc, query, source, out),
+        Some(Command::Trial(kind, n)) => trial(alloc, *kind, *n, out),
+        Some(Command::Upgrade) => upgrade(alloc, source, out),
     }
 }
 
@@ -39,7 +45,11 @@ fn answer<S: Source, O: Sink>(
 /// The words, which match exactly:
 /// - `convert contour`, `convert off`: the CSG text of the contours, or of the mesh;
 /// - `side contour X Y Z W`, `side off X Y Z W`: `odd`, `even` or `edge`, where the point (X/W, Y/W, Z/W) stands to the
-///   contours or to the mesh. X, Y and Z are an optional `-` and digits, W is digits and at least 1.
+///   contours or to the mesh. X, Y and Z are an optional `-` and digits, W is digits and at least 1;
+/// - `ask X Y Z W`: `in`, `out` or `edge`, where that point stands to the tree of a CSG text;
+/// - `trial off N`, `trial contour N`: the CSG text of a generated mesh or generated contours, and a summary of what it
+///   counts. N is digits. Nothing is read;
+/// - `upgrade`: a CSG text laid out anew.
 pub fn run<S: Source, O: Sink, E: Sink>(
     alloc: Global,
     words: &[String],
