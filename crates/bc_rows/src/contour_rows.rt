@@ -6,34 +6,34 @@ use std::test::Fail;
 const DISC: &str = "G00 X5 Y0\nG03 X5 Y0 I-5 J0\n";
 
 const DISC_TEXT: &str =
-    "// bcsg 1 contour\n// box -6 -6 6 6\nunion() {\n  difference() {\n    intersection() {\n      translate([-6,-6,0]) square([12,12]);\n      translate([0,0,0]) circle(r=sqrt(25));\n    }\n  }\n}\n";
+    "// bcsg 2 contour\n// box -6 -6 6 6\nunion() {\n  difference() {\n    intersection() {\n      translate([-6,-6,0]) square([12,12]);\n      translate([0,0,0]) circle(r=sqrt(25));\n    }\n  }\n}\n";
 
-const NOTHING_TEXT: &str = "// bcsg 1 contour\n// box -1 -1 1 1\nunion() {\n}\n";
+const NOTHING_TEXT: &str = "// bcsg 2 contour\n// box -1 -1 1 1\nunion() {\n}\n";
 
 const TWICE: &str =
     "G00 X0 Y0\nG01 X4 Y0\nG01 X4 Y4\nG01 X0 Y4\nG01 X0 Y0\nG00 X0 Y0\nG01 X4 Y0\nG01 X4 Y4\nG01 X0 Y4\nG01 X0 Y0\n";
 
-const TWICE_TEXT: &str = "// bcsg 1 contour\n// box -1 -1 5 5\nunion() {\n}\n";
+const TWICE_TEXT: &str = "// bcsg 2 contour\n// box -1 -1 5 5\nunion() {\n}\n";
 
 const TRIANGLE: &str = "G00 X0 Y0\nG01 X4 Y0\nG01 X0 Y4\nG01 X0 Y0\n";
 
 const TRIANGLE_TEXT: &str =
-    "// bcsg 1 contour\n// box -1 -1 5 5\nunion() {\n  difference() {\n    intersection() {\n      translate([-1,-1,0]) square([6,6]);\n      multmatrix([[1,0,0,0],[0,1,0,0],[0,0,1,0],[0,0,0,1]]) translate([-8192,0,0]) square([16384,8192]);\n    }\n    multmatrix([[1,1,0,4],[-1,1,0,0],[0,0,1,0],[0,0,0,1]]) translate([-8192,0,0]) square([16384,8192]);\n    multmatrix([[0,-1,0,0],[1,0,0,4],[0,0,1,0],[0,0,0,1]]) translate([-8192,0,0]) square([16384,8192]);\n  }\n}\n";
+    "// bcsg 2 contour\n// box -1 -1 5 5\nunion() {\n  difference() {\n    intersection() {\n      translate([-1,-1,0]) square([6,6]);\n      translate([-8192,0,0]) square([16384,8192]);\n    }\n    multmatrix([[1,1,0,4],[-1,1,0,0],[0,0,1,0],[0,0,0,1]]) translate([-8192,0,0]) square([16384,8192]);\n    translate([-8192,-8188,0]) square([8192,16384]);\n  }\n}\n";
 
 const BULGE: &str = "G00 X0 Y0\nG01 X10 Y0\nG03 X10 Y10 I0 J5\nG01 X0 Y10\nG01 X0 Y0\n";
 
 const BULGE_TEXT: &str =
-    "// bcsg 1 contour\n// box -1 -1 16 11\nunion() {\n  difference() {\n    intersection() {\n      translate([-1,-1,0]) square([17,12]);\n      multmatrix([[1,0,0,0],[0,1,0,0],[0,0,1,0],[0,0,0,1]]) translate([-8192,0,0]) square([16384,8192]);\n      multmatrix([[0,-1,0,10],[1,0,0,0],[0,0,1,0],[0,0,0,1]]) translate([-8192,0,0]) square([16384,8192]);\n    }\n    multmatrix([[1,0,0,10],[0,1,0,10],[0,0,1,0],[0,0,0,1]]) translate([-8192,0,0]) square([16384,8192]);\n    multmatrix([[0,-1,0,0],[1,0,0,10],[0,0,1,0],[0,0,0,1]]) translate([-8192,0,0]) square([16384,8192]);\n  }\n  difference() {\n    intersection() {\n      translate([-1,-1,0]) square([17,12]);\n      translate([10,5,0]) circle(r=sqrt(25));\n    }\n  }\n}\n";
+    "// bcsg 2 contour\n// box -1 -1 16 11\nunion() {\n  difference() {\n    intersection() {\n      translate([-1,-1,0]) square([17,12]);\n      translate([-8192,0,0]) square([16384,8192]);\n      translate([-8182,-8192,0]) square([8192,16384]);\n    }\n    translate([-8182,10,0]) square([16384,8192]);\n    translate([-8192,-8182,0]) square([8192,16384]);\n  }\n  difference() {\n    intersection() {\n      translate([-1,-1,0]) square([17,12]);\n      translate([10,5,0]) circle(r=sqrt(25));\n    }\n  }\n}\n";
 
 const MAJOR: &str = "G00 X5 Y0\nG03 X0 Y-5 I-5 J0\nG01 X5 Y0\n";
 
 const MAJOR_TEXT: &str =
-    "// bcsg 1 contour\n// box -6 -6 6 6\nunion() {\n  difference() {\n    intersection() {\n      translate([-6,-6,0]) square([12,12]);\n      multmatrix([[1,-1,0,5],[1,1,0,0],[0,0,1,0],[0,0,0,1]]) translate([-8192,0,0]) square([16384,8192]);\n      translate([0,0,0]) circle(r=sqrt(25));\n    }\n  }\n}\n";
+    "// bcsg 2 contour\n// box -6 -6 6 6\nunion() {\n  difference() {\n    intersection() {\n      translate([-6,-6,0]) square([12,12]);\n      multmatrix([[1,-1,0,5],[1,1,0,0],[0,0,1,0],[0,0,0,1]]) translate([-8192,0,0]) square([16384,8192]);\n      translate([0,0,0]) circle(r=sqrt(25));\n    }\n  }\n}\n";
 
 const ROOT: &str = "G00 X5 Y5\nG03 X-5 Y5 I-5 J-5\nG01 X5 Y5\n";
 
 const ROOT_TEXT: &str =
-    "// bcsg 1 contour\n// box -9 -9 9 9\nunion() {\n  difference() {\n    intersection() {\n      translate([-9,-9,0]) square([18,18]);\n      multmatrix([[1,0,0,5],[0,1,0,5],[0,0,1,0],[0,0,0,1]]) translate([-8192,0,0]) square([16384,8192]);\n      translate([0,0,0]) circle(r=sqrt(50));\n    }\n  }\n}\n";
+    "// bcsg 2 contour\n// box -9 -9 9 9\nunion() {\n  difference() {\n    intersection() {\n      translate([-9,-9,0]) square([18,18]);\n      translate([-8187,5,0]) square([16384,8192]);\n      translate([0,0,0]) circle(r=sqrt(50));\n    }\n  }\n}\n";
 
 const SKEW: &str = "G00 X5 Y0\nG03 X0 Y4 I-5 J0\nG01 X5 Y0\n";
 

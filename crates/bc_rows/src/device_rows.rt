@@ -9,7 +9,7 @@ use std::test::Fail;
 const DISC: &str = "G00 X5 Y0\nG03 X5 Y0 I-5 J0\n";
 
 const DISC_TEXT: &str =
-    "// bcsg 1 contour\n// box -6 -6 6 6\nunion() {\n  // own 2 -2 1\n  difference() {\n    intersection() {\n      translate([-6,-6,0]) square([12,12]);\n      // out 9 6 2\n      translate([0,0,0]) circle(r=sqrt(25));\n    }\n  }\n}\n";
+    "// bcsg 2 contour\n// box -6 -6 6 6\nunion() {\n  // own 2 -2 1\n  difference() {\n    intersection() {\n      translate([-6,-6,0]) square([12,12]);\n      // out 9 6 2\n      translate([0,0,0]) circle(r=sqrt(25));\n    }\n  }\n}\n";
 
 fn planned(alloc: Global, call: u64) -> Result<Vec<u64>, Fail> {
     let mut fails = Vec::new(alloc);
@@ -62,7 +62,7 @@ const FAULTS: [Fault; 5] = [
         room: 40,
         note_room: 4,
         code: 5,
-        out: "// bcsg 1 contour\n// box -6 -6 6 6\nunion",
+        out: "// bcsg 2 contour\n// box -6 -6 6 6\nunion",
         notes: "writ",
     },
     Fault {

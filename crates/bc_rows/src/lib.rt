@@ -11,3 +11,5 @@ mod device_rows;
 mod mesh_rows;
 #[cfg(test)]
 mod size_rows;
+#[cfg(test)]
+mod tree_rows;

@@ -3,18 +3,18 @@
 use crate::case::{Case, run_on, without_notes};
 use std::test::Fail;
 
-const NO_SOLID_TEXT: &str = "// bcsg 1 solid\n// box -1 -1 -1 1 1 1\nunion() {\n}\n";
+const NO_SOLID_TEXT: &str = "// bcsg 2 solid\n// box -1 -1 -1 1 1 1\nunion() {\n}\n";
 
 const TETRA: &str = "OFF\n4 4 6\n0 0 0\n1 0 0\n0 1 0\n0 0 1\n3 0 2 1\n3 0 1 3\n3 0 3 2\n3 1 2 3\n";
 
 const TETRA_TEXT: &str =
-    "// bcsg 1 solid\n// box -1 -1 -1 2 2 2\nunion() {\n  difference() {\n    intersection() {\n      translate([-1,-1,-1]) cube([3,3,3]);\n      multmatrix([[1,0,0,0],[0,1,0,0],[0,0,1,0],[0,0,0,1]]) translate([-8192,-8192,0]) cube([16384,16384,8192]);\n      multmatrix([[1,0,0,0],[0,0,1,0],[0,-1,0,0],[0,0,0,1]]) translate([-8192,-8192,0]) cube([16384,16384,8192]);\n      multmatrix([[0,0,1,0],[-1,0,0,0],[0,-1,0,0],[0,0,0,1]]) translate([-8192,-8192,0]) cube([16384,16384,8192]);\n    }\n    multmatrix([[1,1,1,1],[-1,0,1,0],[0,-1,1,0],[0,0,0,1]]) translate([-8192,-8192,0]) cube([16384,16384,8192]);\n  }\n}\n";
+    "// bcsg 2 solid\n// box -1 -1 -1 2 2 2\nunion() {\n  difference() {\n    intersection() {\n      translate([-1,-1,-1]) cube([3,3,3]);\n      translate([-8192,-8192,0]) cube([16384,16384,8192]);\n      translate([-8192,0,-8192]) cube([16384,8192,16384]);\n      translate([0,-8192,-8192]) cube([8192,16384,16384]);\n    }\n    multmatrix([[1,1,1,1],[-1,0,1,0],[0,-1,1,0],[0,0,0,1]]) translate([-8192,-8192,0]) cube([16384,16384,8192]);\n  }\n}\n";
 
 const CUBE: &str =
     "OFF 8 12 0\n0.000000 0.000000 0.000000\n1.000000 0.000000 0.000000\n1.000000 1.000000 0.000000\n0.000000 1.000000 0.000000\n0.000000 0.000000 1.000000\n1.000000 0.000000 1.000000\n1.000000 1.000000 1.000000\n0.000000 1.000000 1.000000\n3 0 2 1\n3 0 3 2\n3 4 5 6\n3 4 6 7\n3 0 1 5\n3 0 5 4\n3 1 2 6\n3 1 6 5\n3 2 3 7\n3 2 7 6\n3 3 0 4\n3 3 4 7\n";
 
 const CUBE_TEXT: &str =
-    "// bcsg 1 solid\n// box -1 -1 -1 2 2 2\nunion() {\n  difference() {\n    intersection() {\n      translate([-1,-1,-1]) cube([3,3,3]);\n      multmatrix([[1,0,0,0],[0,1,0,0],[0,0,1,0],[0,0,0,1]]) translate([-8192,-8192,0]) cube([16384,16384,8192]);\n      multmatrix([[1,0,0,0],[0,0,1,0],[0,-1,0,0],[0,0,0,1]]) translate([-8192,-8192,0]) cube([16384,16384,8192]);\n      multmatrix([[0,0,1,0],[-1,0,0,1],[0,-1,0,0],[0,0,0,1]]) translate([-8192,-8192,0]) cube([16384,16384,8192]);\n    }\n    multmatrix([[1,0,0,0],[0,1,0,0],[0,0,1,1],[0,0,0,1]]) translate([-8192,-8192,0]) cube([16384,16384,8192]);\n    multmatrix([[0,0,1,1],[-1,0,0,0],[0,-1,0,0],[0,0,0,1]]) translate([-8192,-8192,0]) cube([16384,16384,8192]);\n    multmatrix([[1,0,0,1],[0,0,1,1],[0,-1,0,0],[0,0,0,1]]) translate([-8192,-8192,0]) cube([16384,16384,8192]);\n  }\n}\n";
+    "// bcsg 2 solid\n// box -1 -1 -1 2 2 2\nunion() {\n  difference() {\n    intersection() {\n      translate([-1,-1,-1]) cube([3,3,3]);\n      translate([-8192,-8192,0]) cube([16384,16384,8192]);\n      translate([-8192,0,-8192]) cube([16384,8192,16384]);\n      translate([0,-8191,-8192]) cube([8192,16384,16384]);\n    }\n    translate([-8192,-8192,1]) cube([16384,16384,8192]);\n    translate([1,-8192,-8192]) cube([8192,16384,16384]);\n    translate([-8191,1,-8192]) cube([16384,8192,16384]);\n  }\n}\n";
 
 const OPEN_APART: &str =
     "OFF\n12 3 0\n0 0 0\n0 1 0\n1 0 0\n0 0 0\n1 0 0\n0 0 1\n0 0 0\n0 0 1\n0 1 0\n1 0 0\n0 1 0\n0 0 1\n3 0 1 2\n3 3 4 5\n3 6 7 8\n";

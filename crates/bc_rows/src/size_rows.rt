@@ -54,33 +54,6 @@ fn edges(alloc: Global, n: u32) -> Result<String, Fail> {
     Ok(text)
 }
 
-// A flight of n stairs, 10 deep: 2 n + 4 planes.
-fn stairs(alloc: Global, n: u8) -> Result<String, Fail> {
-    let n = u32::from(n);
-    let m = 2 * n + 2;
-    let mut text = format!(in alloc; "OFF {} {} 0\n", 2 * m, m + 2)?;
-    for y in [0, 10] {
-        text.push_str(format!(in alloc; "0 {y} 0\n")?.as_str())?;
-        for i in 0..n {
-            let up = i + 1;
-            text.push_str(format!(in alloc; "{i} {y} {up}\n{up} {y} {up}\n")?.as_str())?;
-        }
-        text.push_str(format!(in alloc; "{n} {y} 0\n")?.as_str())?;
-    }
-    for first in [0, m] {
-        text.push_str(format!(in alloc; "{m}")?.as_str())?;
-        for k in 0..m {
-            text.push_str(format!(in alloc; " {}", first + k)?.as_str())?;
-        }
-        text.push_str("\n")?;
-    }
-    for k in 0..m {
-        let next = if k + 1 < m { k + 1 } else { 0 };
-        text.push_str(format!(in alloc; "4 {k} {next} {} {}\n", m + next, m + k)?.as_str())?;
-    }
-    Ok(text)
-}
-
 // Whether the run is done, and the text that it writes begins so.
 fn writes(alloc: Global, words: &str, input: &str, front: &str) -> Result<bool, Fail> {
     let end = run_on(alloc, words, input.as_bytes())?;
@@ -100,9 +73,9 @@ fn is_refused(alloc: Global, words: &str, input: &str, line: &str) -> Result<boo
 #[test]
 fn parts_are_converted(rt: HostRuntime) -> Result<(), Fail> {
     let alloc = rt.alloc();
-    let front = "// bcsg 1 contour\n// box -1 -1 41 21\nunion() {\n  // own ";
+    let front = "// bcsg 2 contour\n// box -1 -1 41 21\nunion() {\n  // own ";
     assert!(rt; writes(alloc, "convert contour", PLATE, front)?);
-    let front = "// bcsg 1 solid\n// box -1 -1 -1 3 3 2\nunion() {\n  // own ";
+    let front = "// bcsg 2 solid\n// box -1 -1 -1 3 3 2\nunion() {\n  // own ";
     assert!(rt; writes(alloc, "convert off", ELL, front)?);
     Ok(())
 }
@@ -110,40 +83,38 @@ fn parts_are_converted(rt: HostRuntime) -> Result<(), Fail> {
 #[test]
 fn boundaries_at_their_limits_are_converted(rt: HostRuntime) -> Result<(), Fail> {
     let alloc = rt.alloc();
-    let front = "// bcsg 1 contour\n// box -1 -1 2 24\nunion() {\n}\n";
-    assert!(rt; writes(alloc, "convert contour", lines(alloc, 24)?.as_str(), front)?);
-    let mut both = lines(alloc, 24)?;
-    both.push_str(circles(alloc, 8)?.as_str())?;
-    let front = "// bcsg 1 contour\n// box -9 -9 9 24\nunion() {\n  // own ";
+    let front = "// bcsg 2 contour\n// box -1 -1 2 40\nunion() {\n}\n";
+    assert!(rt; writes(alloc, "convert contour", lines(alloc, 40)?.as_str(), front)?);
+    let mut both = lines(alloc, 40)?;
+    both.push_str(circles(alloc, 10)?.as_str())?;
+    let front = "// bcsg 2 contour\n// box -11 -11 11 40\nunion() {\n  // own ";
     assert!(rt; writes(alloc, "convert contour", both.as_str(), front)?);
-    let front = "// bcsg 1 contour\n// box -1 -1 2 1\nunion() {\n}\n";
+    let front = "// bcsg 2 contour\n// box -1 -1 2 1\nunion() {\n}\n";
     assert!(rt; writes(alloc, "convert contour", edges(alloc, 512)?.as_str(), front)?);
-    let front = "// bcsg 1 solid\n// box -1 -1 -1 2 2 24\nunion() {\n}\n";
-    assert!(rt; writes(alloc, "convert off", triangles(alloc, 24)?.as_str(), front)?);
-    let front = "// bcsg 1 solid\n// box -1 -1 -1 11 11 11\nunion() {\n  // own ";
-    assert!(rt; writes(alloc, "convert off", stairs(alloc, 10)?.as_str(), front)?);
+    let front = "// bcsg 2 solid\n// box -1 -1 -1 2 2 40\nunion() {\n}\n";
+    assert!(rt; writes(alloc, "convert off", triangles(alloc, 40)?.as_str(), front)?);
     Ok(())
 }
 
 #[test]
 fn boundaries_past_their_limits_are_refused(rt: HostRuntime) -> Result<(), Fail> {
     let alloc = rt.alloc();
-    let text = lines(alloc, 25)?;
+    let text = lines(alloc, 41)?;
     assert!(rt;
         is_refused(
             alloc,
             "convert contour",
             text.as_str(),
-            "refused: TooManyLines 25\n"
+            "refused: TooManyLines 41\n"
         )?
     );
-    let text = circles(alloc, 9)?;
+    let text = circles(alloc, 11)?;
     assert!(rt;
         is_refused(
             alloc,
             "convert contour",
             text.as_str(),
-            "refused: TooManyDiscs 9\n"
+            "refused: TooManyDiscs 11\n"
         )?
     );
     let text = edges(alloc, 513)?;
@@ -155,22 +126,13 @@ fn boundaries_past_their_limits_are_refused(rt: HostRuntime) -> Result<(), Fail>
             "refused: TooMany line 513\n"
         )?
     );
-    let text = triangles(alloc, 25)?;
+    let text = triangles(alloc, 41)?;
     assert!(rt;
         is_refused(
             alloc,
             "convert off",
             text.as_str(),
-            "refused: TooManyPlanes 25\n"
-        )?
-    );
-    let text = stairs(alloc, 11)?;
-    assert!(rt;
-        is_refused(
-            alloc,
-            "convert off",
-            text.as_str(),
-            "refused: TooManyPlanes 26\n"
+            "refused: TooManyPlanes 41\n"
         )?
     );
     Ok(())
