@@ -1,0 +1,265 @@
+"""The inputs of bench/run, each made from its numbers: contours, meshes, and texts and streams of these."""
+import math
+import random
+import sys
+from pathlib import Path
+
+import counts
+
+EXAMPLES = Path(__file__).resolve().parent.parent / "examples"
+sys.path.append(str(EXAMPLES))
+import boundaries
+
+FAR = 1023
+
+
+class Boundary:
+    """A boundary of one kind, as a text."""
+
+    def __init__(self, kind, text):
+        self.kind, self.text = kind, text
+
+    def numbers(self):
+        """Its half-spaces, and its cells or candidates, for the table."""
+        if self.kind == "off":
+            places, faces = boundaries.mesh(self.text)
+            places = [tuple(map(int, p)) for p in places]
+            planes = counts.planes_of(places, faces)
+            return f"{len(planes)} planes", counts.cells_of(planes, counts.block_of(places, faces)) if planes else 1
+        whole = lambda p: p and tuple(map(int, p))
+        read = [[(whole(p), whole(q), whole(c), turn) for p, q, c, turn in contour] for contour in boundaries.contours(self.text)]
+        lines, discs = counts.lines_of(read), counts.discs_of(read)
+        return f"{len(lines)} lines, {len(discs)} discs", counts.candidates_of(lines, discs, counts.tile_of(read))
+
+
+class Case:
+    """A named input: the bytes that a command reads, the boundary whose numbers the table has, and words of the case's own."""
+
+    def __init__(self, name, make, boundary=None, words=()):
+        self.name, self.make, self.boundary, self.words = name, make, boundary, list(words)
+
+    def bytes(self):
+        """The input, or None where there is none: it is to be made from a text that the program refused to write."""
+        made = self.make()
+        return made.encode() if isinstance(made, str) else made
+
+
+# ---- contours
+
+
+def ring(corners, radius=1000):
+    """Whole places round the origin, almost evenly."""
+    turns = [2 * math.pi * i / corners for i in range(corners)]
+    return [(round(radius * math.cos(turn)), round(radius * math.sin(turn))) for turn in turns]
+
+
+def path(places):
+    """The edges round these places, as blocks."""
+    x, y = places[-1]
+    return "".join([f"G00 X{x} Y{y}\n", *(f"G01 X{x} Y{y}\n" for x, y in places)])
+
+
+def circle(x, y, radius):
+    return f"G00 X{x + radius} Y{y}\nG03 X{x + radius} Y{y} I{-radius} J0\n"
+
+
+def star(lines):
+    """A polygon whose edges all cross one another, or nearly all."""
+    step = next(k for k in range(lines // 2 - 1, 0, -1) if math.gcd(k, lines) == 1)
+    places = ring(lines)
+    return path([places[i * step % lines] for i in range(lines)])
+
+
+def tangle(lines, seed):
+    """A closed path of edges to and fro between random places."""
+    chance = random.Random(seed)
+    return path([(chance.randint(-FAR, FAR), chance.randint(-FAR, FAR)) for _ in range(lines)])
+
+
+def crossing(discs, spread, seed=7, least=300, most=458):
+    """Circles round random centres that are at most `spread` apart along each axis."""
+    chance = random.Random(seed)
+    at = lambda: chance.randint(-spread // 2, spread // 2)
+    return "".join(circle(at(), at(), chance.randint(least, most)) for _ in range(discs))
+
+
+def near(discs, radius, seed=1):
+    """Circles of one radius round different places near the origin."""
+    chance, places = random.Random(seed), {}
+    while len(places) < discs:
+        places[chance.randint(-3, 3), chance.randint(-3, 3)] = None
+    return "".join(circle(x, y, radius) for x, y in places)
+
+
+def holes(count):
+    """A bar with round holes in a row."""
+    long = 20 * count
+    bar = path([(long, 0), (long, 20), (0, 20), (0, 0)])
+    return bar + "".join(circle(20 * i + 10, 10, 5) for i in range(count))
+
+
+def contour_cases():
+    texts = [
+        ("bar with 8 holes", holes(8)),
+        ("bar with 10 holes", holes(10)),
+        ("gear (examples)", (EXAMPLES / "gear.ngc").read_text()),
+        ("star of 24 lines", star(24)),
+        ("star of 40 lines", star(40)),
+        ("tangle of 24 lines", tangle(24, 1)),
+        ("tangle of 40 lines", tangle(40, 1)),
+        ("polygon of 40 lines, 10 discs across", path(ring(40)) + crossing(10, 500)),
+        ("star of 24 lines, 8 discs across", star(24) + crossing(8, 500)),
+        ("star of 40 lines, 5 discs across", star(40) + crossing(5, 500)),
+        ("star of 40 lines, 10 small discs", star(40) + crossing(10, 1200, least=20, most=120)),
+        ("star of 40 lines, 10 discs across", star(40) + crossing(10, 500)),
+        ("star of 24 lines, 8 discs nearly one", star(24) + near(8, 140)),
+        ("star of 40 lines, 6 discs nearly one", star(40) + near(6, 84)),
+        ("star of 40 lines, 10 discs nearly one", star(40) + near(10, 84)),
+    ]
+    return [(name, Boundary("contour", text + "M30\n")) for name, text in texts]
+
+
+# ---- meshes
+
+
+def mesh(places, faces):
+    rows = [f"OFF {len(places)} {len(faces)} 0"]
+    rows += [" ".join(map(str, place)) for place in places]
+    rows += [" ".join(map(str, (len(face), *face))) for face in faces]
+    return "\n".join(rows) + "\n"
+
+
+def stair(steps):
+    """A stair between two outlines, at y = 0 and y = 10."""
+    outline = [(0, 0), *(place for i in range(1, steps + 1) for place in ((i - 1, i), (i, i))), (steps, 0)]
+    count = len(outline)
+    sides = [[k, (k + 1) % count, count + (k + 1) % count, count + k] for k in range(count)]
+    return mesh([(x, y, z) for y in (0, 10) for x, z in outline], [list(range(count)), list(range(count, 2 * count)), *sides])
+
+
+def tetrahedra(count, seed, far=FAR):
+    """Tetrahedra with random corners, which cross one another."""
+    chance = random.Random(seed)
+    places = [tuple(chance.randint(-far, far) for _ in range(3)) for _ in range(4 * count)]
+    return mesh(places, [[4 * t + i for i in range(4) if i != left] for t in range(count) for left in range(4)])
+
+
+def windings(planes, faces, seed=3):
+    """Faces of 64 corners on random planes, each round the same 16 places of its plane four times; of each plane as many."""
+    chance, places, all_faces = random.Random(seed), [], []
+    for k in range(planes):
+        a, b, c = chance.randint(-4, 4), chance.randint(-4, 4), chance.randint(-60, 60)
+        places += [(x, y, a * x + b * y + c) for x, y in ring(16, 90 + k % 30)]
+        all_faces += [[16 * k + i % 16 for i in range(64)]] * (faces // planes // 2 * 2)
+    return mesh(places, all_faces)
+
+
+def floors(planes, faces, seed=3):
+    """Faces of 64 corners on a plane below nearly all cells, and two triangles on each other plane, which are random."""
+    chance, places, triangles = random.Random(seed), [(x, y, -400) for x, y in ring(64, 100)], []
+    for k in range(planes - 1):
+        a, b, c = chance.randint(-4, 4), chance.randint(-4, 4), chance.randint(-60, 60)
+        places += [(x, y, a * x + b * y + c) for x, y in ((-100, -100), (100, -90), (-90, 100))]
+        triangles += [[64 + 3 * k + i for i in range(3)]] * 2
+    return mesh(places, triangles + [list(range(64))] * (faces - len(triangles)))
+
+
+def central(count, seed):
+    """Tetrahedra of one size, almost, round the origin, each turned at random."""
+    chance, places = random.Random(seed), []
+    for _ in range(count):
+        w, x, y, z = (chance.gauss(0, 1) for _ in range(4))
+        turn = [
+            (w * w + x * x - y * y - z * z, 2 * (x * y - w * z), 2 * (x * z + w * y)),
+            (2 * (x * y + w * z), w * w - x * x + y * y - z * z, 2 * (y * z - w * x)),
+            (2 * (x * z - w * y), 2 * (y * z + w * x), w * w - x * x - y * y + z * z),
+        ]
+        size = 577 / (w * w + x * x + y * y + z * z)
+        for corner in ((1, 1, 1), (1, -1, -1), (-1, 1, -1), (-1, -1, 1)):
+            places.append(tuple(round(size * counts.dot(row, corner)) for row in turn))
+    return mesh(places, [[4 * t + i for i in range(4) if i != left] for t in range(count) for left in range(4)])
+
+
+def mesh_cases():
+    texts = [
+        ("stair of 10 steps", stair(10)),
+        ("stair of 18 steps", stair(18)),
+        ("flange (examples)", (EXAMPLES / "flange.off").read_text()),
+        ("tripod (examples)", (EXAMPLES / "tripod.off").read_text()),
+        ("6 tetrahedra", tetrahedra(6, 1)),
+        ("10 tetrahedra", tetrahedra(10, 1)),
+        ("10 tetrahedra round one centre", central(10, 1)),
+        ("2,016 faces of 64 corners on 24 planes", windings(24, 2016)),
+        ("2,000 faces of 64 corners on 40 planes", windings(40, 2000)),
+        ("1,970 faces of 64 corners on the lowest of 40 planes", floors(40, 2048)),
+    ]
+    return [(name, Boundary("off", text)) for name, text in texts]
+
+
+# ---- commands
+
+
+class Texts:
+    """The texts that the program writes for boundaries, each made once. `convert` runs it on the kind and the text."""
+
+    def __init__(self, convert):
+        self.convert, self.made = convert, {}
+
+    def of(self, boundary):
+        """The text, or None where the boundary was refused."""
+        if boundary not in self.made:
+            self.made[boundary] = self.convert(boundary.kind, boundary.text.encode())
+        return self.made[boundary]
+
+
+def plain(cases, words=()):
+    return [Case(name, lambda it=it: it.text, it, words) for name, it in cases]
+
+
+def numbered(kind, least, most, text_of):
+    return [Case(f"{n}", lambda: b"", Boundary(kind, text_of(n)), [str(n)]) for n in (least, most)]
+
+
+def of_texts(cases, texts, words=()):
+    return [Case("the text of: " + name, lambda it=it: texts.of(it), None, words) for name, it in cases]
+
+
+def joined(first, second):
+    return first if second is None else first.encode() + b"====\n" + second
+
+
+def audited(cases, texts):
+    return [Case(name + ", and its text", lambda it=it: (text := texts.of(it)) and joined(it.text, text), it) for name, it in cases]
+
+
+def pairs(cases):
+    return [Case(name, lambda stream=joined(first, second.encode()): stream, whole) for name, first, second, whole in cases]
+
+
+def layers(count):
+    """Stars with a few discs, one on the other."""
+    section = star(24) + crossing(3, 500)
+    return "".join(f"LAYER {k} {k + 1}\n{section}" for k in range(count))
+
+
+def commands(texts):
+    """Each command by its first words, with its inputs."""
+    contours, meshes = contour_cases(), mesh_cases()
+    flat, solid = ("1", "2", "0", "3"), ("1", "2", "5", "3")
+    tangles = tangle(20, 1), tangle(20, 2)
+    return [
+        (["convert", "contour"], plain(contours)),
+        (["convert", "off"], plain(meshes)),
+        (["side", "contour"], plain(contours[-3:], flat)),
+        (["side", "off"], plain(meshes[-3:], solid)),
+        (["trial", "contour"], numbered("contour", 8, 10, holes)),
+        (["trial", "off"], numbered("off", 10, 18, stair)),
+        (["factor", "contour"], plain(contours)),
+        (["factor", "off"], plain(meshes)),
+        (["ask"], of_texts(contours[-7:-3], texts, flat) + of_texts(meshes[3:6], texts, solid)),
+        (["upgrade"], of_texts(contours[-7:-3], texts) + of_texts(meshes[3:6], texts)),
+        (["audit"], audited(meshes, texts)),
+        (["combine", "union", "contour"], pairs([("two tangles of 20 lines", *tangles, Boundary("contour", "".join(tangles)))])),
+        (["combine", "union", "off"], pairs([("twice 5 tetrahedra", tetrahedra(5, 1), tetrahedra(5, 2), None)])),
+        (["prism"], [Case("64 layers: star of 24 lines, 3 discs across", lambda: layers(64))]),
+    ]
