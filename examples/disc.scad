@@ -1,4 +1,4 @@
-// bcsg 1 contour
+// bcsg 2 contour
 // box -6 -6 6 6
 union() {
   // own 2 -2 1

@@ -1,4 +1,4 @@
-// bcsg 1 contour
+// bcsg 2 contour
 // box -21 -21 21 21
 union() {
   // own 7 -7 1
