@@ -6,11 +6,11 @@ use Rattle.bc_num.specs.declared.box3.Box3.{Box3}
 use Rattle.bc_num.specs.Lines.{lines}
 use Rattle.bc_num.specs.Tokens.{is_inline}
 use Rattle.bc_tree.specs.Words.{words}
-use Rattle.bc_text.specs.Layout.{solid_box_words}
+use Rattle.bc_text.specs.Layout.{solid_box_words, solid_box_line}
 use Rattle.bc_text.proofs.Pieces.{Closed, both, whole, nothing, Runs, runs, number, a_comment, a_line}
 use Rattle.bc_text.proofs.Texts.{a_node, union_line, last_line, solid_box_inline}
 use Rattle.bc_prism.specs.Layers.{ALayer, height_words, AreLayerWords, IsLawfulLayer}
-use Rattle.bc_prism.specs.Prisms.{height_line, prism_line, bounds_line, layers_text}
+use Rattle.bc_prism.specs.Prisms.{height_line, prism_line, layers_text}
 use Rattle.bc_prism.specs.Laws.{LayoutSpellsLayers, PrismHeadLines}
 use Rattle.bc_prism.proofs.TreeWords.{tree_words}
 
@@ -54,7 +54,7 @@ are_written (l ∷ ls) h =
 kind_comment : Closed (prism_line ++ codes "\n") []
 kind_comment = record { is = λ rest. refl }
 
-box_comment : (b : Box3) → Closed (bounds_line b ++ codes "\n") []
+box_comment : (b : Box3) → Closed (solid_box_line b ++ codes "\n") []
 box_comment b = a_comment (solid_box_words b) (solid_box_inline b)
 
 pub layout_spells_layers : LayoutSpellsLayers
@@ -76,7 +76,7 @@ slashes = record { is = λ rest. refl }
 pub prism_head_lines : PrismHeadLines
 prism_head_lines bounds ls =
     let rest = codes "union() {\n" ++ (layers_text ls ++ codes "}\n") in
-    let box = bounds_line bounds in (
+    let box = solid_box_line bounds in (
       lines rest,
       a_line prism_line ((box ++ codes "\n") ++ rest) kind_inline
           ∙ ap (λ l. prism_line ∷ lines l) (append_assoc box (codes "\n") rest)

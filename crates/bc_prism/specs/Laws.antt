@@ -5,9 +5,10 @@ use Rattle.bc_num.specs.declared.box3.Box3.{Box3}
 use Rattle.bc_num.specs.Lines.{lines}
 use Rattle.bc_tree.specs.Shape.{Shape, union, none}
 use Rattle.bc_tree.specs.Spells.{Spells}
+use Rattle.bc_text.specs.Layout.{solid_box_line}
 use Rattle.bc_prism.specs.declared.layer.Layer.{Layer}
 use Rattle.bc_prism.specs.Layers.{ALayer, layers_of, height_words, AreTreeWords, IsLawfulLayer, SpellsLayers}
-use Rattle.bc_prism.specs.Prisms.{IsLayer, prism_line, bounds_line, prism_layout}
+use Rattle.bc_prism.specs.Prisms.{IsLayer, prism_line, prism_layout}
 
 -- a text spells at most one list of layers
 abbrev pub SpellsOneList : Type 0
@@ -19,7 +20,7 @@ LayoutSpellsLayers = (bounds : Box3) (ls : List ALayer) → All IsLawfulLayer ls
 
 -- its first line names its kind, its second the box
 abbrev pub PrismHeadLines : Type 0
-PrismHeadLines = (bounds : Box3) (ls : List ALayer) → (rest : List (List ℕ)) × (lines (prism_layout bounds ls) ≡ prism_line ∷ (bounds_line bounds ∷ rest))
+PrismHeadLines = (bounds : Box3) (ls : List ALayer) → (rest : List (List ℕ)) × (lines (prism_layout bounds ls) ≡ prism_line ∷ (solid_box_line bounds ∷ rest))
 
 -- a text of layers with at least one of them spells no tree
 abbrev pub LayersAreNoTree : Type 0

@@ -19,12 +19,9 @@ pub record IsLayer (l : Layer) : Type 0 where
   pub leaves : AllLeaves IsLeaf (shape l.tree)
   pub nested : depth (shape l.tree) ≤ 64
 
--- the first line, which names the kind, and the second one
+-- the first line, which names the kind; the second one is that of the box
 abbrev pub prism_line : List ℕ
 prism_line = codes "// bcsg 2 prism"
-
-abbrev pub bounds_line : Box3 → List ℕ
-bounds_line b = solid_box_line b
 
 -- the line before a layer's tree
 abbrev pub height_line : ℤ → ℤ → List ℕ
@@ -39,4 +36,4 @@ layers_text [] = []
 layers_text (l ∷ ls) = layer_text l ++ layers_text ls
 
 abbrev pub prism_layout : Box3 → List ALayer → List ℕ
-prism_layout bounds ls = (prism_line ++ codes "\n") ++ ((bounds_line bounds ++ codes "\n") ++ (codes "union() {\n" ++ (layers_text ls ++ codes "}\n")))
+prism_layout bounds ls = (prism_line ++ codes "\n") ++ ((solid_box_line bounds ++ codes "\n") ++ (codes "union() {\n" ++ (layers_text ls ++ codes "}\n")))
