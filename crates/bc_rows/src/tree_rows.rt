@@ -1,7 +1,6 @@
 //! Runs on CSG texts: where points stand to their trees, and each refusal. And runs on generated boundaries.
 
 use crate::case::{Case, run_on};
-use bc_num::{List, Memory};
 use bc_top::{trial_contour, trial_off};
 use std::alloc::Global;
 use std::test::Fail;
@@ -323,12 +322,15 @@ fn operators_nest_to_their_limit(rt: HostRuntime) -> Result<(), Fail> {
         text.push_str("}")?;
     }
     let end = run_on(alloc, "ask 0 0 0 1", text.as_bytes())?;
-    assert_eq!(rt; end.out.held(), b"out\n");
+    assert_eq!(rt; end.out.held(), b"out\n".as_slice());
     let mut deeper = String::from_str(alloc, "union(){")?;
     deeper.push_str(text.as_str())?;
     deeper.push_str("}")?;
     let end = run_on(alloc, "ask 0 0 0 1", deeper.as_bytes())?;
-    assert_eq!(rt; end.notes.held(), b"refused: TooDeep line 1 token 257\n");
+    assert_eq!(rt;
+        end.notes.held(),
+        b"refused: TooDeep line 1 token 257\n".as_slice()
+    );
     Ok(())
 }
 
@@ -338,43 +340,44 @@ const SUMMARY_OFF: &str =
 const SUMMARY_CONTOUR: &str =
     "trial contour 4\nlines 4\ndiscs 4\ncandidates 13\ninside 1\nterms 1\nliterals 8\nundecided 0\n";
 
-// The words of a trial, those that convert its generated text, that text, and the summary behind what they write.
-struct Trial {
-    words: &'static str,
-    converting: &'static str,
-    text: List<u8>,
-    summary: &'static str,
+// Whether a trial writes what the conversion of its text writes, and then the summary. It has a source that it must not read.
+fn is_summed_up(
+    alloc: Global,
+    words: &str,
+    converting: &str,
+    text: &[u8],
+    summary: &str,
+) -> Result<bool, Fail> {
+    let end = run_on(alloc, words, b"no boundary".as_slice())?;
+    let converted = run_on(alloc, converting, text)?;
+    let mut want = Vec::from_slice(alloc, converted.out.held())?;
+    want.extend_from_slice(summary.as_bytes())?;
+    Ok(end.status.code() == 0 && end.out.held() == want.as_slice())
 }
 
-fn trials(alloc: Global) -> Result<[Trial; 2], Memory> {
-    Ok([
-        Trial {
-            words: "trial off 10",
-            converting: "convert off",
-            text: trial_off(alloc, 10)?,
-            summary: SUMMARY_OFF,
-        },
-        Trial {
-            words: "trial contour 4",
-            converting: "convert contour",
-            text: trial_contour(alloc, 4)?,
-            summary: SUMMARY_CONTOUR,
-        },
-    ])
-}
-
-// A trial reads nothing, and writes what the conversion of its text writes and then the summary.
 #[test]
 fn trials_are_summed_up(rt: HostRuntime) -> Result<(), Fail> {
     let alloc = rt.alloc();
-    for trial in &trials(alloc)? {
-        let end = run_on(alloc, trial.words, b"no boundary")?;
-        let converted = run_on(alloc, trial.converting, trial.text.as_slice())?;
-        assert_eq!(rt; end.status.code(), 0);
-        let (text, summary) = end.out.held().split_at(converted.out.held().len());
-        assert_eq!(rt; text, converted.out.held());
-        assert_eq!(rt; summary, trial.summary.as_bytes());
-    }
+    let stair = trial_off(alloc, 10)?;
+    assert!(rt;
+        is_summed_up(
+            alloc,
+            "trial off 10",
+            "convert off",
+            stair.as_slice(),
+            SUMMARY_OFF
+        )?
+    );
+    let plate = trial_contour(alloc, 4)?;
+    assert!(rt;
+        is_summed_up(
+            alloc,
+            "trial contour 4",
+            "convert contour",
+            plate.as_slice(),
+            SUMMARY_CONTOUR
+        )?
+    );
     Ok(())
 }
 
@@ -414,7 +417,7 @@ const ALL: [&str; 28] = [
 fn each_trial_is_done(rt: HostRuntime) -> Result<(), Fail> {
     let alloc = rt.alloc();
     for words in &ALL {
-        let end = run_on(alloc, words, b"")?;
+        let end = run_on(alloc, words, b"".as_slice())?;
         assert_eq!(rt; end.status.code(), 0);
     }
     Ok(())
