@@ -161,7 +161,7 @@ const RUNS: [Case; 40] = [
         input: "translate([0,0,0]) square([1,1]); ?",
         code: 2,
         out: "",
-        notes: "refused: BadToken line 1 token 18\n",
+        notes: "refused: BadToken line 1 token 20\n",
     },
     Case {
         words: "ask 1 2 3",
