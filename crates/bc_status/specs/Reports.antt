@@ -18,8 +18,14 @@ use Rattle.bc_natural.specs.declared.nat_fault.NatFault.{NatFault}
 use Rattle.bc_natural.specs.declared.nat_fault.NatFault.TheVariants as limits
 use Rattle.bc_read.specs.declared.fault.CsgFault.{CsgFault}
 use Rattle.bc_read.specs.declared.fault.CsgFault.TheVariants as reading
+use Rattle.bc_prism.specs.declared.fault.LayerFault.{LayerFault}
+use Rattle.bc_prism.specs.declared.fault.LayerFault.TheVariants as layers
+use Rattle.bc_status.specs.declared.parts.PartFault.{PartFault}
+use Rattle.bc_status.specs.declared.parts.PartFault.TheVariants as part
+use Rattle.bc_status.specs.declared.parts.InnerFault.{InnerFault}
+use Rattle.bc_status.specs.declared.parts.InnerFault.TheVariants as inner
 use Rattle.bc_status.specs.declared.status.Refusal.{Refusal}
-use Rattle.bc_status.specs.declared.status.Refusal.TheVariants.{PointTooFine, PointOffPlane, TooLong, Off, G, Mesh, Contour, Limit, Csg}
+use Rattle.bc_status.specs.declared.status.Refusal.TheVariants.{PointTooFine, PointOffPlane, TooLong, Off, G, Mesh, Contour, Limit, Csg, NoPart, PartTooLong, Second, NotSolid, OtherBox, Layer, InLayer}
 use Rattle.bc_status.specs.declared.status.Status.{Status}
 use Rattle.bc_status.specs.declared.status.Status.TheVariants.{Done, Refused, Usage, ReadFault, WriteFault, Memory}
 
@@ -119,6 +125,35 @@ of_csg (reading.TooDeep line token) = at_token (codes "TooDeep") line token
 of_csg (reading.Extra line token) = at_token (codes "Extra") line token
 of_csg reading.Memory = codes "Memory"
 
+abbrev pub overlap_words : ℕ → ℕ → List ℕ
+overlap_words first second = codes "Overlap" ++ ((codes " layer " ++ decimal first) ++ (codes " layer " ++ decimal second))
+
+abbrev pub of_layers : LayerFault → List ℕ
+of_layers (layers.BadLayer line) = at_line (codes "BadLayer") line
+of_layers (layers.TooManyLayers line) = at_line (codes "TooManyLayers") line
+of_layers (layers.Overlap first second) = overlap_words first second
+of_layers layers.Memory = codes "Memory"
+
+abbrev pub of_part : PartFault → List ℕ
+of_part (part.Off f) = of_text f
+of_part (part.G f) = of_grammar f
+of_part (part.Mesh f) = of_mesh f
+of_part (part.Contour f) = of_contours f
+of_part (part.Csg f) = of_csg f
+
+-- the second part's faults stand behind its number
+abbrev pub second_words : PartFault → List ℕ
+second_words f = codes "part 2 " ++ of_part f
+
+abbrev pub of_inner : InnerFault → List ℕ
+of_inner (inner.G f) = of_grammar f
+of_inner (inner.Contour f) = of_contours f
+of_inner (inner.Limit f) = of_limit f
+
+-- and a section's behind its number
+abbrev pub in_layer_words : ℕ → InnerFault → List ℕ
+in_layer_words layer f = (codes "layer " ++ decimal layer) ++ (codes " " ++ of_inner f)
+
 abbrev pub said : Refusal → List ℕ
 said PointTooFine = codes "PointTooFine"
 said PointOffPlane = codes "PointOffPlane"
@@ -129,6 +164,13 @@ said (Mesh f) = of_mesh f
 said (Contour f) = of_contours f
 said (Limit f) = of_limit f
 said (Csg f) = of_csg f
+said NoPart = codes "NoPart"
+said (PartTooLong part) = counted (codes "PartTooLong") part
+said (Second f) = second_words f
+said NotSolid = codes "NotSolid"
+said OtherBox = codes "OtherBox"
+said (Layer f) = of_layers f
+said (InLayer layer f) = in_layer_words layer f
 
 -- ---- the line of a status
 

@@ -1,6 +1,6 @@
 //! What becomes of the faults of the crates below: want of memory is a status of its own, and every other fault is refused.
 ghost use Rattle.std.specs.Prelude.{◌≡◌};
-ghost use Rattle.bc_status.specs.Faults.{Becomes, IsEndOfReading};
+ghost use Rattle.bc_status.specs.Faults.{Becomes, IsEndOfReading, IsEndOfAudit};
 ghost use Rattle.bc_status.specs.declared.status.Status.TheVariants.{Refused, Memory};
 ghost use Rattle.bc_status.specs.declared.status.Refusal.TheVariants as refusals;
 ghost use Rattle.bc_gcode.specs.declared.fault.GFault.TheVariants as grammar;
@@ -9,13 +9,17 @@ ghost use Rattle.bc_solid.specs.declared.contour_fault.ContourFault.TheVariants 
 ghost use Rattle.bc_solid.specs.declared.mesh_fault.MeshFault.TheVariants as mesh;
 ghost use Rattle.bc_natural.specs.declared.nat_fault.NatFault.TheVariants as limits;
 ghost use Rattle.bc_read.specs.declared.fault.CsgFault.TheVariants as csg;
+ghost use Rattle.bc_prism.specs.declared.fault.LayerFault.TheVariants as layers;
 
 use crate::{Refusal, Status};
+use bc_audit::AuditFault;
 use bc_gcode::GFault;
 use bc_io::ReadEnd;
 use bc_natural::NatFault;
 use bc_num::Memory as NoMemory;
 use bc_off::OffFault;
+use bc_pair::NoPart;
+use bc_prism::LayerFault;
 use bc_read::CsgFault;
 use bc_solid::{ContourFault, MeshFault};
 
@@ -94,6 +98,39 @@ impl From<CsgFault> for Status {
             CsgFault::Memory => Status::Memory,
             fault => Status::Refused(Refusal::Csg(fault)),
         }
+    }
+}
+
+impl From<LayerFault> for Status {
+    ghost from_gives = { Becomes layers.Memory refusals.Layer };
+
+    fn from(fault: LayerFault) -> Status {
+        match fault {
+            LayerFault::Memory => Status::Memory,
+            fault => Status::Refused(Refusal::Layer(fault)),
+        }
+    }
+}
+
+impl From<AuditFault> for Status {
+    ghost from_gives = { IsEndOfAudit };
+
+    fn from(fault: AuditFault) -> Status {
+        match fault {
+            AuditFault::OtherBox => Status::Refused(Refusal::OtherBox),
+            AuditFault::TooManyPlanes { n } => {
+                Status::Refused(Refusal::Limit(NatFault::TooManyPlanes { n }))
+            }
+            AuditFault::Memory => Status::Memory,
+        }
+    }
+}
+
+impl From<NoPart> for Status {
+    ghost from_gives = { λ _ s. s ≡ Refused refusals.NoPart };
+
+    fn from(_: NoPart) -> Status {
+        Status::Refused(Refusal::NoPart)
     }
 }
 

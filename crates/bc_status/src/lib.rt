@@ -4,8 +4,10 @@
 
 mod faults;
 mod lines;
+mod parts;
 mod reporting;
 mod status;
 
+pub use parts::{InnerFault, PartFault};
 pub use reporting::report;
 pub use status::{Refusal, Status};

@@ -1,13 +1,14 @@
 //! What is said of each refusal: a name, and where it is or what it counts.
 ghost use Rattle.bc_io.specs.Growing.{GrewBy};
-ghost use Rattle.bc_status.specs.Reports.{at_line, at_word, at_token, at_face, at_place, counted, open_words, skew_words, edge_words, corner_words, of_grammar, of_text, of_contours, of_mesh, of_limit, of_csg, said};
+ghost use Rattle.bc_status.specs.Reports.{at_line, at_word, at_token, at_face, at_place, counted, open_words, skew_words, edge_words, corner_words, of_grammar, of_text, of_contours, of_mesh, of_limit, of_csg, overlap_words, of_layers, of_part, second_words, of_inner, in_layer_words, said};
 
-use crate::Refusal;
+use crate::{InnerFault, PartFault, Refusal};
 use bc_gcode::GFault;
 use bc_io::{Pen, Sink};
 use bc_natural::NatFault;
 use bc_num::{V2, V3};
 use bc_off::OffFault;
+use bc_prism::LayerFault;
 use bc_read::CsgFault;
 use bc_solid::{ContourFault, MeshFault};
 
@@ -181,6 +182,62 @@ fn put_csg<K: Sink>(pen: &mut Pen<K>, fault: &CsgFault)
     }
 }
 
+fn put_overlap<K: Sink>(pen: &mut Pen<K>, first: u32, second: u32)
+    ensures { GrewBy K.held K.faults pen.old pen.new (overlap_words first second) }
+{
+    pen.put(b"Overlap");
+    pen.put_next(b" layer ", first);
+    pen.put_next(b" layer ", second);
+}
+
+fn put_layers<K: Sink>(pen: &mut Pen<K>, fault: &LayerFault)
+    ensures { GrewBy K.held K.faults pen.old pen.new (of_layers fault.now) }
+{
+    match fault {
+        LayerFault::BadLayer { line } => put_at_line(pen, b"BadLayer", *line),
+        LayerFault::TooManyLayers { line } => put_at_line(pen, b"TooManyLayers", *line),
+        LayerFault::Overlap { first, second } => put_overlap(pen, *first, *second),
+        LayerFault::Memory => pen.put(b"Memory"),
+    }
+}
+
+fn put_part<K: Sink>(pen: &mut Pen<K>, fault: &PartFault)
+    ensures { GrewBy K.held K.faults pen.old pen.new (of_part fault.now) }
+{
+    match fault {
+        PartFault::Off(fault) => put_text(pen, fault),
+        PartFault::G(fault) => put_grammar(pen, fault),
+        PartFault::Mesh(fault) => put_mesh(pen, fault),
+        PartFault::Contour(fault) => put_contours(pen, fault),
+        PartFault::Csg(fault) => put_csg(pen, fault),
+    }
+}
+
+fn put_in_second<K: Sink>(pen: &mut Pen<K>, fault: &PartFault)
+    ensures { GrewBy K.held K.faults pen.old pen.new (second_words fault.now) }
+{
+    pen.put(b"part 2 ");
+    put_part(pen, fault);
+}
+
+fn put_inner<K: Sink>(pen: &mut Pen<K>, fault: &InnerFault)
+    ensures { GrewBy K.held K.faults pen.old pen.new (of_inner fault.now) }
+{
+    match fault {
+        InnerFault::G(fault) => put_grammar(pen, fault),
+        InnerFault::Contour(fault) => put_contours(pen, fault),
+        InnerFault::Limit(fault) => put_limit(pen, fault),
+    }
+}
+
+fn put_in_layer<K: Sink>(pen: &mut Pen<K>, layer: u32, fault: &InnerFault)
+    ensures { GrewBy K.held K.faults pen.old pen.new (in_layer_words layer fault.now) }
+{
+    pen.put_next(b"layer ", layer);
+    pen.put(b" ");
+    put_inner(pen, fault);
+}
+
 /// What is said of a refusal.
 pub fn put_said<K: Sink>(pen: &mut Pen<K>, refusal: &Refusal)
     ensures { GrewBy K.held K.faults pen.old pen.new (said refusal.now) }
@@ -195,5 +252,12 @@ pub fn put_said<K: Sink>(pen: &mut Pen<K>, refusal: &Refusal)
         Refusal::Contour(fault) => put_contours(pen, fault),
         Refusal::Limit(fault) => put_limit(pen, fault),
         Refusal::Csg(fault) => put_csg(pen, fault),
+        Refusal::NoPart => pen.put(b"NoPart"),
+        Refusal::PartTooLong { part } => put_counted(pen, b"PartTooLong", *part as u64),
+        Refusal::Second(fault) => put_in_second(pen, fault),
+        Refusal::NotSolid => pen.put(b"NotSolid"),
+        Refusal::OtherBox => pen.put(b"OtherBox"),
+        Refusal::Layer(fault) => put_layers(pen, fault),
+        Refusal::InLayer { layer, fault } => put_in_layer(pen, *layer, fault),
     }
 }

@@ -1,9 +1,11 @@
 ghost use Rattle.std.specs.Prelude.{◌≡◌};
 ghost use Rattle.bc_status.specs.Status.{code_of};
 
+use crate::{InnerFault, PartFault};
 use bc_gcode::GFault;
 use bc_natural::NatFault;
 use bc_off::OffFault;
+use bc_prism::LayerFault;
 use bc_read::CsgFault;
 use bc_solid::{ContourFault, MeshFault};
 
@@ -29,6 +31,20 @@ pub enum Refusal {
     Limit(NatFault),
     /// The text is not of the CSG grammar.
     Csg(CsgFault),
+    /// No line of a joined text is `====`.
+    NoPart,
+    /// This part of a joined text, counted from 1, has more bytes than a boundary text may have.
+    PartTooLong { part: u32 },
+    /// The second part of a joined text is at fault.
+    Second(PartFault),
+    /// The formula of an audit has a leaf of the plane.
+    NotSolid,
+    /// A block of the formula is not the box of the mesh.
+    OtherBox,
+    /// The text has no sections of layers.
+    Layer(LayerFault),
+    /// The contours of this section, counted from 0, are not converted.
+    InLayer { layer: u32, fault: InnerFault },
 }
 
 /// How a run of the program ended.
