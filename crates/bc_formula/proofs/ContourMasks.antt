@@ -71,7 +71,7 @@ free_of b t p h k = record { inside = above_walls b p h; off = k.lines }
 
 -- ---- a candidate with a free point's mask is odd where the point is
 
-lines_count : (t : Curves) → length (lines_of t) ≡ length t.lines
+pub lines_count : (t : Curves) → length (lines_of t) ≡ length t.lines
 lines_count t = length-map t.lines (λ (g : Line2 × _). g.0)
 
 odd_like : (es : List Element) (t : Curves) (b : Box2) (ds : List Disc2) (regions : List Region) (c : Candidate) (p : P2)

@@ -73,14 +73,14 @@ module _ (es : List Element) (b : Box2) (t : Curves) (regions : List Region) (al
   lines_count : length (lines_of t) ≡ length t.lines
   lines_count = length-map t.lines (λ (g : Line2 × _). g.0)
 
-  region_at : (r : ℕ) (region : Region) → slice_get regions r ≡ Some region → IsRegion b (lines_of t) region
+  pub region_at : (r : ℕ) (region : Region) → slice_get regions r ≡ Some region → IsRegion b (lines_of t) region
   region_at r region at = at_place (IsRegion b (lines_of t)) regions r region cells.each at
 
-  candidate_at : (c : Candidate) → Contains all c → IsCandidate b (lines_of t) t.discs regions c
+  pub candidate_at : (c : Candidate) → Contains all c → IsCandidate b (lines_of t) t.discs regions c
   candidate_at c h = All-contains (IsCandidate b (lines_of t) t.discs regions) all c cand.each h
 
   -- the parts of the mask of a candidate that is the mask of p
-  parts : (c : Candidate) (k : IsCandidate b (lines_of t) t.discs regions c) (p : P2) → c.mask ≡ curve_mask t p → (k.region.mask ≡ mask_of line_side (lines_of t) p) × (k.set ≡ mask_of disc_side t.discs p)
+  pub parts : (c : Candidate) (k : IsCandidate b (lines_of t) t.discs regions c) (p : P2) → c.mask ≡ curve_mask t p → (k.region.mask ≡ mask_of line_side (lines_of t) p) × (k.set ≡ mask_of disc_side t.discs p)
   parts c k p e =
       let cell = region_at c.region k.region k.at in
       let below : k.region.mask < 2 ^ length t.lines = subst (λ n. k.region.mask < 2 ^ n) lines_count (subst (λ m. m < 2 ^ length (lines_of t)) cell.of_mask (mask_below line_side (lines_of t) k.region.inner)) in

@@ -57,7 +57,8 @@ ascending terms h i one next e f =
 
 module _ {B P X : Type 0} (k : Geometry B P X) (b : B) (box : X) (leaves : List Leaf) (mask_at : P → ℕ) (inside outside : List ℕ) (terms : List Term)
     (facts : AreBits k b box leaves mask_at) (divided : AreDivided k b box mask_at inside outside) (cover : IsCover inside outside (length leaves) terms) where
-  means : Means k b box (cover_shape (k.block box) leaves terms)
+  -- the tree of the terms means the boundary
+  pub means : Means k b box (cover_shape (k.block box) leaves terms)
   means = record {
     free = λ p ins off.
         let tree = cover_holds k.in_leaf (k.block box) leaves terms p (mask_at p) (facts.in_block p ins) (facts.bits p ins off) cover.bits_below in (

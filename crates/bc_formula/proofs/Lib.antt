@@ -1,16 +1,16 @@
 pub mod Described
 pub mod Formulas
 pub mod Counted
-mod Mapped
-mod ContourLeaves
-mod ContourMasks
+pub mod Mapped
+pub mod ContourLeaves
+pub mod ContourMasks
 mod ContourPoints
-mod SameRegions
-mod ContourNotes
-mod MeshLeaves
-mod MeshMasks
-mod MeshNotes
+pub mod SameRegions
+pub mod ContourNotes
+pub mod MeshLeaves
+pub mod MeshMasks
+pub mod MeshNotes
 mod Marks
 mod Needed
 mod Taken
-mod TwoLists
+pub mod TwoLists

@@ -82,7 +82,7 @@ pairs-cons c cs h k (suc i) zero d l w = absurd (omega arith)
 pairs-cons c cs h k (suc i) (suc j) d l w = k i j d (omega arith) (omega arith)
 
 -- the masks ascend, so no two are the same
-apart_pairs : (cells : List Cell3) → Ascends cells → AllPairs (λ c d. c.mask ≢ d.mask) cells
+pub apart_pairs : (cells : List Cell3) → Ascends cells → AllPairs (λ c d. c.mask ≢ d.mask) cells
 apart_pairs [] h = λ i j d l w. absurd (omega arith)
 apart_pairs (c ∷ cs) h = pairs-cons c cs h.0 (apart_pairs cs h.1)
 

@@ -65,7 +65,7 @@ module _ (b : Box3) (p : P3) where
   abbrev Q : Plane3 → Type 0
   Q w = plane_side w p ≡ Above
 
-  inside_of3 : All Q (walls3 b) → IsInside3 b p
+  pub inside_of3 : All Q (walls3 b) → IsInside3 b p
   inside_of3 h =
       let t1 = right3 b ∷ (front3 b ∷ (rear3 b ∷ (low3 b ∷ (high3 b ∷ [])))) in
       let t2 = front3 b ∷ (rear3 b ∷ (low3 b ∷ (high3 b ∷ []))) in

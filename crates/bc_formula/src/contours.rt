@@ -39,7 +39,8 @@ fn spot(seen: Option<P2>) -> Option<Spot>
     }
 }
 
-fn shown(alloc: Global, marks: &[Marked2]) -> Result<Vec<Shown>, Memory>
+/// The masks as notes have them: each with its point, if it has one.
+pub fn shown(alloc: Global, marks: &[Marked2]) -> Result<Vec<Shown>, Memory>
     ensures { IfOk result (λ v. v.items ≡ map shown2 marks.now) }
 {
     let mut shown = Vec::new(alloc);
@@ -124,8 +125,8 @@ fn add_discs(leaves: &mut List<Leaf>, table: &CurveTable) -> Result<(), Memory>
     Ok(())
 }
 
-// The leaves of the half-spaces, in the order of the table.
-fn leaves(alloc: Global, table: &CurveTable) -> Result<List<Leaf>, Memory>
+/// The leaves of the half-spaces, in the order of the table.
+pub fn leaves(alloc: Global, table: &CurveTable) -> Result<List<Leaf>, Memory>
     requires sized { AreSized table.now }
     ensures { IfOk result (λ ls. ls ≡ leaves_of table.now) }
 {

@@ -3,11 +3,11 @@
 //! formula and its text mean, of any kind of boundary.
 #![tactic(auto)]
 
-mod contours;
-mod meshes;
+pub mod contours;
+pub mod meshes;
 mod tally;
 mod terms;
 
 pub use contours::{contour_division, contour_formula};
 pub use meshes::{mesh_division, mesh_formula};
-pub use terms::{Division, Formula, formula_of};
+pub use terms::{Division, Formula, Parts, formula_of, terms_of};

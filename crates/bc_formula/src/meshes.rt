@@ -36,7 +36,8 @@ fn shown_mark(mark: &Marked3) -> Shown
     }
 }
 
-fn shown(alloc: Global, marks: &[Marked3]) -> Result<Vec<Shown>, Memory>
+/// The masks as notes have them: each with its point in lowest terms.
+pub fn shown(alloc: Global, marks: &[Marked3]) -> Result<Vec<Shown>, Memory>
     requires { All (λ m. IsLargePoint3 m.inner) marks.now }
     ensures { IfOk result (λ v. v.items ≡ map shown3 marks.now) }
 {
@@ -89,8 +90,8 @@ fn slab(table: &PlaneTable, i: usize) -> Leaf
     })
 }
 
-// The leaves of the half-spaces, in the order of the table.
-fn slabs(alloc: Global, table: &PlaneTable) -> Result<List<Leaf>, Memory>
+/// The leaves of the half-spaces, in the order of the table.
+pub fn slabs(alloc: Global, table: &PlaneTable) -> Result<List<Leaf>, Memory>
     ensures { IfOk result (λ ls. ls ≡ slabs_of table.now) }
 {
     let mut leaves = List::new(alloc);
