@@ -18,7 +18,7 @@ use Rattle.bc_formula.specs.Geometry.{Geometry}
 use Rattle.bc_top.specs.Texts.{Grammar, Questions}
 use Rattle.bc_top.specs.Promises.{IsGood, Fulfils}
 use Rattle.bc_top.specs.Stages.{Stops, IsPut}
-use Rattle.bc_top.specs.Converts.{IsConvertRefusal, IsFormulaOf, converts}
+use Rattle.bc_top.specs.Converts.{IsConvertRefusal, IsConverted, IsFormulaOf, reads_boundary, converts}
 use Rattle.bc_top.specs.Sides.{IsSideText, sides}
 use Rattle.bc_top.specs.Answers.{Answers}
 use Rattle.bc_formula.proofs.Described.{described_by}
@@ -39,25 +39,34 @@ pub record IsFair {P : Type 0} (a : Questions P) : Type 0 where
   pub no_point : (q : Question) (f : Refusal) (p : P) → a.unasked q f → a.asked q p → ⊥
 
 module _ {B P X : Type 0} (k : Geometry B P X) (g : Grammar B) (settled : IsSettled k g) where
+  -- ---- a command that reads a boundary
+
+  module _ (IsText : List ℕ → List ℕ → Type 0) where
+    pub boundary_honest : IsHonest (reads_boundary k g IsText)
+    boundary_honest = record {
+      input = refl;
+      too_long = λ bytes more. inl (settled.text.too_long bytes more);
+      no_fault = λ bytes f h t. elim h [
+        | inl e ↦ settled.text.no_fault bytes f t.boundary e t.of_bytes
+        | inr (limit, e, some, c, o, past) ↦ settled.no_limit bytes limit c t.boundary o t.of_bytes past some t.within
+      ];
+      no_early = λ bytes f h t. h;
+    }
+
+    pub boundary_stop : (s : Status) (r : Reading) (w : Writing) → Stops g.most (IsConvertRefusal k g) r s → Keeps w.held w.grown → Fulfils (reads_boundary k g IsText) s r w
+    boundary_stop s r w h e = fulfils_stop (reads_boundary k g IsText) boundary_honest s r w (λ f none. none) h e
+
+    pub boundary_put : (s : Status) (r : Reading) (w : Writing) (bytes text : List ℕ) → IsRead r bytes → IsText bytes text → IsPut text s w → Fulfils (reads_boundary k g IsText) s r w
+    boundary_put s r w bytes text h t p = fulfils_put (reads_boundary k g IsText) boundary_honest s r w bytes text (λ f none. none) h t p
+
   -- ---- convert
 
-  pub convert_honest : IsHonest (converts k g)
-  convert_honest = record {
-    input = refl;
-    too_long = λ bytes more. inl (settled.text.too_long bytes more);
-    no_fault = λ bytes f h t. elim h [
-      | inl e ↦ settled.text.no_fault bytes f t.boundary e t.of_bytes
-      | inr (limit, e, some, c, o, past) ↦ settled.no_limit bytes limit c t.boundary o t.of_bytes past some t.within
-    ];
-    no_early = λ bytes f h t. h;
-  }
-
   pub converts_stop : (s : Status) (r : Reading) (w : Writing) → Stops g.most (IsConvertRefusal k g) r s → Keeps w.held w.grown → Fulfils (converts k g) s r w
-  converts_stop s r w h e = fulfils_stop (converts k g) convert_honest s r w (λ f none. none) h e
+  converts_stop s r w h e = boundary_stop (IsConverted k g) s r w h e
 
   pub converts_put : (s : Status) (r : Reading) (w : Writing) (bytes : List ℕ) (head : Head) (box : X) (t : Shape) (notes : List Note) → IsRead r bytes → head ≡ k.head box → IsFormulaOf k g bytes box t notes → IsPut (layout head notes t) s w → Fulfils (converts k g) s r w
   converts_put s r w bytes head box t notes h is f p =
-      fulfils_put (converts k g) convert_honest s r w bytes (layout (k.head box) notes t) (λ f none. none) h
+      boundary_put (IsConverted k g) s r w bytes (layout (k.head box) notes t) h
       (record { boundary = f.boundary; of_bytes = f.of_bytes; described = described_by k f.boundary box t notes (layout (k.head box) notes t) f.formula refl })
       (subst (λ (head : Head). IsPut (layout head notes t) s w) is p)
 

@@ -26,7 +26,7 @@ use Rattle.bc_top.specs.Stages.{Stops, IsPut}
 use Rattle.bc_top.proofs.Fulfilled.{IsHonest, fulfils_put, fulfils_stop, fulfils_early}
 
 -- a text that spells a tree has no fault
-no_tree_fault : (bytes : List ℕ) (f : Refusal) (tree : Shape) → IsTreeFault bytes f → HasTree bytes tree → ⊥
+pub no_tree_fault : (bytes : List ℕ) (f : Refusal) (tree : Shape) → IsTreeFault bytes f → HasTree bytes tree → ⊥
 no_tree_fault bytes f tree (inl (e, more)) k = absurd (omega (arith, more, k.few))
 no_tree_fault bytes f tree (inr (g, e, few, first)) k = fault_spells_none bytes g tree first k.spells
 
