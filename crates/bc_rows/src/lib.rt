@@ -2,13 +2,21 @@
 #![tactic(auto)]
 
 #[cfg(test)]
+mod audit_rows;
+#[cfg(test)]
 mod case;
+#[cfg(test)]
+mod combine_rows;
 #[cfg(test)]
 mod contour_rows;
 #[cfg(test)]
 mod device_rows;
 #[cfg(test)]
+mod factor_rows;
+#[cfg(test)]
 mod mesh_rows;
+#[cfg(test)]
+mod prism_rows;
 #[cfg(test)]
 mod size_rows;
 #[cfg(test)]

@@ -34,7 +34,56 @@ const APART: &str =
 const FAR: &str =
     "OFF\n4 4 6\n-1023 -1023 -1023\n1023 -1022 -1023\n-1022 1023 -1023\n-1023 -1023 1023\n3 0 2 1\n3 0 1 3\n3 0 3 2\n3 1 2 3\n";
 
-const RUNS: [Case; 32] = [
+const RUNS: [Case; 39] = [
+    Case {
+        words: "convert off",
+        input: "OFF\n4 4 6\n0 0 0\n1 0 0\n0 1 0\n",
+        code: 2,
+        out: "",
+        notes: "refused: Short line 6\n",
+    },
+    Case {
+        words: "convert off",
+        input: "OFF\n4 4 6\n0 0 0\n1 0 0\n0 1 0\n0 0 1\n3 0 2 1\n3 0 1 3\n3 0 3 2\n",
+        code: 2,
+        out: "",
+        notes: "refused: Short line 10\n",
+    },
+    Case {
+        words: "convert off",
+        input: "OFF\n4 4 6\n0 0 0\n1 0 0\n0 1 0\n0 0 1\n3 0 2 1\n3 0 1 3\n3 0 3 2\n3 1 2\n",
+        code: 2,
+        out: "",
+        notes: "refused: Short line 10 word 4\n",
+    },
+    Case {
+        words: "convert off",
+        input: "OFF\n4 4\n",
+        code: 2,
+        out: "",
+        notes: "refused: BadCount line 2 word 3\n",
+    },
+    Case {
+        words: "convert off",
+        input: "OFF 1024 2048 0",
+        code: 2,
+        out: "",
+        notes: "refused: Short line 2\n",
+    },
+    Case {
+        words: "convert off",
+        input: "OFF 1111111111111111111111111111111111111111 0 0\n",
+        code: 2,
+        out: "",
+        notes: "refused: TooMany line 1 word 2\n",
+    },
+    Case {
+        words: "convert off",
+        input: "OFF -1 0 0\n",
+        code: 2,
+        out: "",
+        notes: "refused: BadCount line 1 word 2\n",
+    },
     Case {
         words: "convert off",
         input: "OFF 0 0 0\n",

@@ -13,7 +13,7 @@ const ELL: &str =
     "OFF 12 8 0\n0 0 0\n2 0 0\n2 1 0\n1 1 0\n1 2 0\n0 2 0\n0 0 1\n2 0 1\n2 1 1\n1 1 1\n1 2 1\n0 2 1\n6 0 1 2 3 4 5\n6 6 7 8 9 10 11\n4 0 1 7 6\n4 1 2 8 7\n4 2 3 9 8\n4 3 4 10 9\n4 4 5 11 10\n4 5 0 6 11\n";
 
 // Edges there and back, one above the other: n lines, and nothing inside.
-fn lines(alloc: Global, n: u32) -> Result<String, Fail> {
+pub fn lines(alloc: Global, n: u32) -> Result<String, Fail> {
     let mut text = String::new(alloc);
     for k in 0..n {
         text.push_str(format!(in alloc; "G00 X0 Y{k}\nG01 X1\nX0\n")?.as_str())?;
@@ -22,7 +22,7 @@ fn lines(alloc: Global, n: u32) -> Result<String, Fail> {
 }
 
 // Circles around one centre: n discs, one in the other.
-fn circles(alloc: Global, n: u8) -> Result<String, Fail> {
+pub fn circles(alloc: Global, n: u8) -> Result<String, Fail> {
     let n = u32::from(n);
     let mut text = String::new(alloc);
     for k in 1..n + 1 {
@@ -32,7 +32,7 @@ fn circles(alloc: Global, n: u8) -> Result<String, Fail> {
 }
 
 // Triangles of two sides each, one above the other: n planes, and nothing inside.
-fn triangles(alloc: Global, n: u8) -> Result<String, Fail> {
+pub fn triangles(alloc: Global, n: u8) -> Result<String, Fail> {
     let n = u32::from(n);
     let mut text = format!(in alloc; "OFF {} {} 0\n", 3 * n, 2 * n)?;
     for k in 0..n {
@@ -65,7 +65,7 @@ fn writes(alloc: Global, words: &str, input: &str, front: &str) -> Result<bool, 
 }
 
 // Whether the run is refused with this line, and writes nothing.
-fn is_refused(alloc: Global, words: &str, input: &str, line: &str) -> Result<bool, Fail> {
+pub fn is_refused(alloc: Global, words: &str, input: &str, line: &str) -> Result<bool, Fail> {
     let end = run_on(alloc, words, input.as_bytes())?;
     Ok(end.status.code() == 2 && end.out.held().is_empty() && end.notes.held() == line.as_bytes())
 }
