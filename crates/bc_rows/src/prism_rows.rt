@@ -1,6 +1,7 @@
 //! Runs on layers of contours: what is written, and each refusal.
 
 use crate::case::{Case, run_on};
+use crate::size_rows::{circles, lines};
 use std::alloc::Global;
 use std::test::Fail;
 
@@ -288,40 +289,31 @@ fn layers_are_at_most_64(rt: HostRuntime) -> Result<(), Fail> {
     Ok(())
 }
 
-// A good section, and behind it one of n full circles about one centre.
-fn circles(alloc: Global, n: u32) -> Result<String, Fail> {
-    let mut text = String::from_str(alloc, "LAYER 0 1\nLAYER 1 2\n")?;
-    for k in 1..n + 1 {
-        text.push_str(format!(in alloc; "G00 X{k} Y0\nG03 I-{k}\n")?.as_str())?;
-    }
-    Ok(text)
-}
-
-// A good section, and behind it one of n lines, there and back.
-fn lines(alloc: Global, n: u32) -> Result<String, Fail> {
-    let mut text = String::from_str(alloc, "LAYER 0 1\nLAYER 1 2\n")?;
-    for k in 0..n {
-        text.push_str(format!(in alloc; "G00 X0 Y{k}\nG01 X1\nX0\n")?.as_str())?;
-    }
-    Ok(text)
+// A good section, and behind it one of these contours.
+fn behind_a_layer(alloc: Global, text: &str) -> Result<String, Fail> {
+    Ok(format!(in alloc; "LAYER 0 1\nLAYER 1 2\n{text}")?)
 }
 
 #[test]
 fn sections_have_limits(rt: HostRuntime) -> Result<(), Fail> {
     let alloc = rt.alloc();
-    let end = run_on(alloc, "prism", circles(alloc, 11)?.as_bytes())?;
+    let text = behind_a_layer(alloc, circles(alloc, 11)?.as_str())?;
+    let end = run_on(alloc, "prism", text.as_bytes())?;
     assert_eq!(rt;
         end.notes.held(),
         b"refused: layer 1 TooManyDiscs 11\n".as_slice()
     );
-    let end = run_on(alloc, "prism", circles(alloc, 10)?.as_bytes())?;
+    let text = behind_a_layer(alloc, circles(alloc, 10)?.as_str())?;
+    let end = run_on(alloc, "prism", text.as_bytes())?;
     assert_eq!(rt; end.status.code(), 0);
-    let end = run_on(alloc, "prism", lines(alloc, 41)?.as_bytes())?;
+    let text = behind_a_layer(alloc, lines(alloc, 41)?.as_str())?;
+    let end = run_on(alloc, "prism", text.as_bytes())?;
     assert_eq!(rt;
         end.notes.held(),
         b"refused: layer 1 TooManyLines 41\n".as_slice()
     );
-    let end = run_on(alloc, "prism", lines(alloc, 40)?.as_bytes())?;
+    let text = behind_a_layer(alloc, lines(alloc, 40)?.as_str())?;
+    let end = run_on(alloc, "prism", text.as_bytes())?;
     assert_eq!(rt; end.status.code(), 0);
     Ok(())
 }
