@@ -137,6 +137,17 @@ def stair(steps):
     return mesh([(x, y, z) for y in (0, 10) for x, z in outline], [list(range(count)), list(range(count, 2 * count)), *sides])
 
 
+def shells(count):
+    """Boxes in one another; every other one is a hollow."""
+    places, faces = [], []
+    for k in range(count):
+        low, high, first = k, 4 * count - k, len(places)
+        places += [(x, y, z) for z in (low, high) for x, y in ((low, low), (high, low), (high, high), (low, high))]
+        sides = ((3, 2, 1, 0), (4, 5, 6, 7), (0, 1, 5, 4), (1, 2, 6, 5), (2, 3, 7, 6), (3, 0, 4, 7))
+        faces += [[first + i for i in side] for side in sides]
+    return mesh(places, faces)
+
+
 def tetrahedra(count, seed, far=FAR):
     """Tetrahedra with random corners, which cross one another."""
     chance = random.Random(seed)
@@ -263,3 +274,22 @@ def commands(texts):
         (["combine", "union", "off"], pairs([("twice 5 tetrahedra", tetrahedra(5, 1), tetrahedra(5, 2), None)])),
         (["prism"], [Case("64 layers: star of 24 lines, 3 discs across", lambda: layers(64))]),
     ]
+
+
+# ---- covers
+
+
+# parts with the least terms and literals that are known of formulas over their half-spaces
+COVERS = [
+    ("bracket (examples)", lambda: example("bracket.ngc"), (4, 16)),
+    ("slot (examples)", lambda: example("slot.ngc"), (4, 18)),
+    ("two parts (examples)", lambda: example("parts.off"), (2, 11)),
+    ("3 boxes in one another", lambda: Boundary("off", shells(3)), (7, 42)),
+    ("stair of 10 steps", lambda: Boundary("off", stair(10)), (10, 60)),
+    ("stair of 18 steps", lambda: Boundary("off", stair(18)), (18, 108)),
+]
+
+
+def example(name):
+    """A boundary of the examples."""
+    return Boundary("off" if name.endswith(".off") else "contour", (EXAMPLES / name).read_text())
