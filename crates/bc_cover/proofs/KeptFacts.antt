@@ -1,21 +1,24 @@
 -- Bits of a mask are marked as needed, and others dropped, until the needed ones keep each outside mask out.
-use Rattle.std.proofs.Common.{ℕ, ◌≡◌, ◌≢◌, ◌+◌, ◌-◌, ◌^◌, ◌<◌, ◌≤◌, true, false, List, [], ◌∷◌, ◌++◌, take, length, get_or, set, sym, ◌∙◌, ap, refl, subst, arith, inl, inr, ⊎_elim, get_or-set_same, get_or-set_other, length-set, eqb, filter}
+use Rattle.std.proofs.Common.{ℕ, ◌≡◌, ◌≢◌, ◌+◌, ◌-◌, ◌^◌, ◌<◌, ◌≤◌, true, false, Bool, List, [], ◌∷◌, ◌++◌, take, length, get_or, set, sym, ◌∙◌, ap, refl, subst, arith, inl, inr, ⊎_elim, get_or-set_same, get_or-set_other, length-set, eqb, filter}
 use Rattle.std.specs.Prelude.{slice_index}
 use Rattle.std.specs.Int.{bit_at}
 use Rattle.std.specs.Int.Bits.{bit_and, bit_xor}
-use Rattle.std.specs.List.{All, Any}
-use Rattle.std.proofs.lemmas.Bool.{cases_eq, eqb-true, eq-eqb, both_ways, false_from_ne_true}
+use Rattle.std.specs.List.{All, Any, Contains}
+use Rattle.std.proofs.lemmas.Bool.{cases_Bool, cases_eq, eqb-true, eq-eqb, both_ways, false_from_ne_true}
 use Rattle.std.proofs.lemmas.Nat.{pow_pos, and_le_r}
 use Rattle.std.proofs.lemmas.Nat.Bits.{bit_at_and, bit_at_xor, bit_at-zero, bit_at-lt, same_from_bits}
 use Rattle.std.proofs.lemmas.List.Elements.{All-filter, All-push, All-more, All-weaker, filter_passes}
+use Rattle.std.proofs.lemmas.List.{get_or_default}
 use Rattle.std.proofs.lemmas.List.Quantifiers.{Any-push}
 use Rattle.bc_cover.specs.declared.rows.Row.{Row}
 use Rattle.bc_cover.specs.declared.rows.Kept.{Kept}
-use Rattle.bc_cover.specs.Masks.{without_bit, agrees}
+use Rattle.bc_cover.specs.Masks.{without_bit, admits, agrees}
+use Rattle.bc_cover.specs.Groups.{held_places}
 use Rattle.bc_cover.specs.Steps.{IsAlikeAt, IsKept}
-use Rattle.bc_cover.specs.Rows.{IsRow, HasRow, AreAllRows, IsMarked, AreNeeded, IsFaced, IsExpanding}
+use Rattle.bc_cover.specs.Rows.{IsRow, HasRow, IsMarked, AreNeeded, IsFaced, IsExpanding}
+use Rattle.bc_cover.proofs.PlaceFacts.{where_has}
 use Rattle.bc_cover.proofs.FilterFacts.{any_filter, any_longer}
-use Rattle.bc_cover.proofs.BitFacts.{without-lt, without_left, without_other, without_same, agrees_all, agrees_fewer}
+use Rattle.bc_cover.proofs.BitFacts.{without-lt, without_left, without_other, without_same, agrees_all, agrees_fewer, term_from_agrees}
 
 -- ---- words that share a bit
 pub some_bit : (m i : ℕ) → bit_at m i ≡ 1 → m ≢ 0
@@ -98,22 +101,30 @@ needed_more outside mask kept needed i row low here one others alone is old = re
 }
 
 -- ---- the loop that drops bits
-pub expanding_starts : (outside : List ℕ) (mask n : ℕ) (kept : Kept) (rows : List Row) → kept.bits ≡ 2 ^ n - 1 → kept.needed ≡ 0 → length kept.witnesses ≡ 64 → AreAllRows outside mask rows → mask < 2 ^ n → All (λ o. o < 2 ^ n) outside → All (λ o. o ≢ mask) outside → IsExpanding outside mask n kept rows
-expanding_starts outside mask n kept rows all none size are below others ne =
+pub none_needed : (outside : List ℕ) (mask : ℕ) (kept : Kept) → kept.needed ≡ 0 → length kept.witnesses ≡ 64 → AreNeeded outside mask kept
+none_needed outside mask kept none size =
     let never : (i : ℕ) → bit_at kept.needed i ≢ 1 = λ i one. let z : bit_at kept.needed i ≡ 0 = ap (λ k. bit_at k i) none ∙ bit_at-zero i in omega (arith, z, one) in
-    record {
-      within = omega (arith, all, pow_pos n);
-      needed = record { size = size; kept_too = λ i one. absurd (never i one); alike = λ i one. absurd (never i one) };
-      faced = All-weaker (λ o. HasRow rows (bit_xor o mask)) (IsFaced rows kept.needed mask) (λ o has. inr has) outside are.every;
-      each = are.each;
-      met = All-weaker (IsRow outside mask) (λ row. bit_and row.difference kept.bits ≢ 0)
-          (λ row is none.
-          let o : ℕ = slice_index outside row.place in
-          let out : agrees (2 ^ n - 1) mask o ≡ false = agrees_all n mask o below (others row.place 0 is.0) (ne row.place 0 is.0) in
-          let come : bit_and (bit_xor o mask) (2 ^ n - 1) ≡ 0 = ap (λ b. bit_and (bit_xor o mask) b) (sym all) ∙ (ap (λ d. bit_and d kept.bits) (sym is.1) ∙ none) in
-          both_ways _ out (eq-eqb _ _ come))
-          rows are.each;
-    }
+    record { size = size; kept_too = λ i one. absurd (never i one); alike = λ i one. absurd (never i one) }
+
+-- all bits keep out each outside mask
+pub all_met : (outside : List ℕ) (mask n bits : ℕ) (rows : List Row) → bits ≡ 2 ^ n - 1 → All (IsRow outside mask) rows → mask < 2 ^ n → All (λ o. o < 2 ^ n) outside → All (λ o. o ≢ mask) outside → All (λ row. bit_and row.difference bits ≢ 0) rows
+all_met outside mask n bits rows all each below others ne =
+    All-weaker (IsRow outside mask) (λ row. bit_and row.difference bits ≢ 0)
+    (λ row is none.
+    let o : ℕ = slice_index outside row.place in
+    let out : agrees (2 ^ n - 1) mask o ≡ false = agrees_all n mask o below (others row.place 0 is.0) (ne row.place 0 is.0) in
+    let come : bit_and (bit_xor o mask) (2 ^ n - 1) ≡ 0 = ap (λ b. bit_and (bit_xor o mask) b) (sym all) ∙ (ap (λ d. bit_and d bits) (sym is.1) ∙ none) in
+    both_ways _ out (eq-eqb _ _ come))
+    rows each
+
+pub expanding_starts : (outside : List ℕ) (mask n : ℕ) (kept : Kept) (rows : List Row) → kept.bits ≡ 2 ^ n - 1 → AreNeeded outside mask kept → All (IsRow outside mask) rows → All (IsFaced rows kept.needed mask) outside → mask < 2 ^ n → All (λ o. o < 2 ^ n) outside → All (λ o. o ≢ mask) outside → IsExpanding outside mask n kept rows
+expanding_starts outside mask n kept rows all needed each faced below others ne = record {
+  within = omega (arith, all, pow_pos n);
+  needed = needed;
+  faced = faced;
+  each = each;
+  met = all_met outside mask n kept.bits rows all each below others ne;
+}
 
 module _ (outside : List ℕ) (mask n : ℕ) (old kept : Kept) (rows seen left : List Row) (state : IsExpanding outside mask n old rows) (read : seen ≡ rows) (same : kept.bits ≡ old.bits) (marks : All (IsMarked kept.bits kept.needed) seen) (more : (i : ℕ) → bit_at old.needed i ≡ 1 → bit_at kept.needed i ≡ 1) (shows : All (IsRow outside mask) seen → AreNeeded outside mask old → AreNeeded outside mask kept) (aside : left ≡ filter (λ row. eqb (bit_and row.difference kept.needed) 0) rows) where
   marked : All (IsMarked kept.bits kept.needed) rows
@@ -235,14 +246,33 @@ module _ (outside : List ℕ) (mask n : ℕ) (old kept : Kept) (rows seen left :
             (stays (IsMarked kept.bits kept.needed) marked k d within);
       }
 
--- ---- a row for each outside mask
-pub rows_more : (outside : List ℕ) (mask i : ℕ) (rows more : List Row) (row : Row) → i < length outside → more ≡ rows ++ row ∷ [] → row.place ≡ i → row.difference ≡ bit_xor (get_or outside i 0) mask → All (IsRow outside mask) rows → All (λ o. HasRow rows (bit_xor o mask)) (take i outside) → All (IsRow outside mask) more × All (λ o. HasRow more (bit_xor o mask)) (take (i + 1) outside)
-rows_more outside mask i rows more row lt e place difference each every =
-    let Q : List Row → Type 0 = λ rs. All (IsRow outside mask) rs × All (λ o. HasRow rs (bit_xor o mask)) (take (i + 1) outside) in
+-- ---- rows of the outside masks that no needed bit keeps out
+pub row_pushed : (outside : List ℕ) (mask : ℕ) (rows more : List Row) (row : Row) → more ≡ rows ++ row ∷ [] → row.place < length outside → row.difference ≡ bit_xor (slice_index outside row.place) mask → All (IsRow outside mask) rows → All (IsRow outside mask) more
+row_pushed outside mask rows more row e lt is each = let Q : List Row → Type 0 = λ rs. All (IsRow outside mask) rs in subst Q (sym e) (All-push (IsRow outside mask) rows row each (lt, is))
+
+pub rows_more : (outside : List ℕ) (mask k : ℕ) (places : List ℕ) (rows more : List Row) (row : Row) → k < length places → more ≡ rows ++ row ∷ [] → row.difference ≡ bit_xor (slice_index outside (get_or places k 0)) mask → All (λ p. HasRow rows (bit_xor (slice_index outside p) mask)) (take k places) → All (λ p. HasRow more (bit_xor (slice_index outside p) mask)) (take (k + 1) places)
+rows_more outside mask k places rows more row lt e is every =
+    let H : List Row → ℕ → Type 0 = λ rs p. HasRow rs (bit_xor (slice_index outside p) mask) in
+    let Q : List Row → Type 0 = λ rs. All (H rs) (take (k + 1) places) in
     let P : ℕ → Type 0 = λ d. Any (λ r. r.difference ≡ d) (rows ++ row ∷ []) in
-    subst Q (sym e) (
-      All-push (IsRow outside mask) rows row each (omega (arith, place, lt), difference ∙ ap (λ k. bit_xor (get_or outside k 0) mask) (sym place)),
-      All-more (λ o. HasRow (rows ++ row ∷ []) (bit_xor o mask)) outside i 0 lt
-          (All-weaker (λ o. HasRow rows (bit_xor o mask)) (λ o. HasRow (rows ++ row ∷ []) (bit_xor o mask)) (λ o has. any_longer (λ r. r.difference ≡ bit_xor o mask) rows row has) (take i outside) every)
-          (subst P difference (Any-push (λ r. r.difference ≡ row.difference) rows row refl)),
-    )
+    subst Q (sym e)
+    (All-more (H (rows ++ row ∷ [])) places k 0 lt
+    (All-weaker (H rows) (H (rows ++ row ∷ [])) (λ p has. any_longer (λ r. r.difference ≡ bit_xor (slice_index outside p) mask) rows row has) (take k places) every)
+    (subst P is (Any-push (λ r. r.difference ≡ row.difference) rows row refl)))
+
+pub all_faced : (outside : List ℕ) (mask needed : ℕ) (places : List ℕ) (rows : List Row) → places ≡ held_places outside (bit_and mask needed) (bit_xor (bit_and mask needed) needed) → All (λ p. HasRow rows (bit_xor (slice_index outside p) mask)) places → All (IsFaced rows needed mask) outside
+all_faced outside mask needed places rows e every = λ k d lt.
+    let pos : ℕ = bit_and mask needed in
+    let neg : ℕ = bit_xor (bit_and mask needed) needed in
+    let test : ℕ → Bool = λ i. admits pos neg (slice_index outside i) in
+    let o : ℕ = slice_index outside k in
+    let F : ℕ → Type 0 = λ m. IsFaced rows needed mask m in
+    subst F (get_or_default outside k 0 d lt)
+    (⊎_elim
+    (λ held.
+    let C : List ℕ → Type 0 = λ xs. Contains xs k in
+    let (j, within, same) = subst C (sym e) (where_has test (length outside) k lt held) in
+    let H : ℕ → Type 0 = λ p. HasRow rows (bit_xor (slice_index outside p) mask) in
+    inr (subst H same (every j k within)))
+    (λ out. inl (λ none. both_ways _ out (term_from_agrees needed mask o (eq-eqb _ _ none))))
+    (cases_Bool (admits pos neg o)))

@@ -1,8 +1,10 @@
 //! Which bit of a mask is dropped next: one that keeps out inside masks that no term holds yet. Any choice gives a lawful
 //! term; this one gives few terms.
-ghost use Rattle.std.specs.Prelude.{◌≡◌, ◌<◌};
+ghost use Rattle.std.specs.Prelude.{◌≡◌, ◌<◌, length};
 ghost use Rattle.std.specs.Int.{bit_at};
+ghost use Rattle.bc_cover.specs.Groups.{AreGroups};
 
+use crate::groups::Grouped;
 use crate::words::{has_bit, lowest_bit, take_out};
 use bc_num::Memory;
 use std::alloc::Global;
@@ -14,14 +16,37 @@ const SAMPLE: usize = 1 << 14;
 // soon count most, and far ones, however many, do not outweigh them.
 const HALVINGS: u32 = 38;
 
-/// The differences to `mask` of some of the masks, evenly spread. `Memory` where there is no room.
-pub fn near_masks(alloc: Global, masks: &[u64], mask: u64) -> Result<Vec<u64>, Memory> {
+// Some of the masks, evenly spread.
+fn sample(alloc: Global, masks: &[u64]) -> Result<Vec<u64>, Memory> {
     let step = masks.len() / SAMPLE + 1;
-    let mut near = Vec::new(alloc);
-    for other in masks.iter().step_by(step) {
-        near.push(*other ^ mask)?;
+    let mut some = Vec::new(alloc);
+    for mask in masks.iter().step_by(step) {
+        some.push(*mask)?;
     }
-    Ok(near)
+    Ok(some)
+}
+
+/// The differences to `mask` of some of the inside masks that no term holds yet and no needed bit keeps out. `Memory` where
+/// there is no room.
+pub fn near_masks(
+    alloc: Global,
+    inside: &Grouped<'_>,
+    counts: &[usize],
+    mask: u64,
+    needed: u64,
+) -> Result<Vec<u64>, Memory>
+    requires groups { AreGroups inside.now.masks.now inside.now.groups.items }
+    requires size { length counts.now ≡ length inside.now.masks.now }
+{
+    let pos = mask & needed;
+    let places = inside.places(alloc, pos, pos ^ needed)?;
+    let mut near = Vec::new(alloc);
+    for place in &places {
+        if counts[*place] == 0 {
+            near.push(inside.masks[*place] ^ mask)?;
+        }
+    }
+    sample(alloc, &near)
 }
 
 /// Drops the masks that a needed bit keeps out.
