@@ -14,7 +14,7 @@ use lib.Signed.{◌≤ℤ◌, ◌<ℤ◌}
 use Rattle.bc_algebra.proofs.Ring.{ring, quotes}
 use Rattle.bc_num.specs.declared.v3.V3.{V3}
 use Rattle.bc_num.specs.declared.p3.P3.{P3}
-use Rattle.bc_num.specs.Directions3.{IsPrimitiveOf3, IsZero3}
+use Rattle.bc_num.specs.Directions3.{IsPrimitive3, IsPrimitiveOf3, IsZero3}
 use Rattle.bc_num.specs.Divides.{Divides}
 use Rattle.bc_space.specs.declared.side.Side.{Side}
 use Rattle.bc_space.specs.declared.side.Side.TheVariants.{Below, On, Above}
@@ -23,7 +23,6 @@ use Rattle.bc_space.specs.Sides.{side_of_value}
 use Rattle.bc_space.specs.Planes.{plane_value, plane_side}
 use Rattle.bc_space.specs.PlanesThrough.{along_normal3}
 use Rattle.bc_tree.specs.declared.frame.Frame3.{Frame3}
-use Rattle.bc_tree.specs.Leaves.{IsPrimitive3}
 use Rattle.bc_tree.specs.Near.{rise3}
 use Rattle.bc_audit.specs.SlabPlanes.{IsSlabPlane}
 use Rattle.bc_audit.specs.declared.literal.Literal.{Literal}

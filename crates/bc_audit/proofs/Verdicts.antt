@@ -43,7 +43,7 @@ use Rattle.bc_tree.proofs.Half.{slab_half}
 use Rattle.bc_audit.specs.SlabPlanes.{IsSlabPlane, slabs, ArePlanesWith}
 use Rattle.bc_audit.specs.Blocks.{is_of_box, every}
 use Rattle.bc_audit.specs.Told.{leaf_told, literal_from, told_by, holds_by}
-use Rattle.bc_audit.specs.Compared.{Cell3, IsCompared, IsFound}
+use Rattle.bc_audit.specs.Compared.{Cell3, IsCompared, IsDifference}
 use Rattle.bc_audit.specs.declared.verdict.Verdict.{Verdict}
 use Rattle.bc_audit.specs.declared.verdict.Verdict.TheVariants as verdicts
 use Rattle.bc_audit.specs.Audits.{IsOfBox, IsOffSlab, IsAuditPoint, IsWitness, IsVerdict, Differ}

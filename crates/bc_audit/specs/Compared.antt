@@ -16,7 +16,7 @@ abbrev pub Cell3 : Type 0
 Cell3 = Cell Solid3 P3 Plane3 Box3
 
 -- cell i has another parity than is given, and p is the place of its inner point in lowest terms
-pub record IsFound (fs : List Facet) (cells : List Cell3) (holds : List Bool) (p : P3) : Type 0 where
+pub record IsDifference (fs : List Facet) (cells : List Cell3) (holds : List Bool) (p : P3) : Type 0 where
   pub i : ℕ
   pub cell : Cell3
   pub at : slice_get cells i ≡ Some cell
@@ -26,4 +26,4 @@ pub record IsFound (fs : List Facet) (cells : List Cell3) (holds : List Bool) (p
 
 abbrev pub IsCompared : List Facet → List Cell3 → List Bool → Verdict → Type 0
 IsCompared fs cells holds Same = (i : ℕ) (c : Cell3) → slice_get cells i ≡ Some c → is_odd3_at fs c.inner ≡ get_or holds i false
-IsCompared fs cells holds (Differs p) = IsFound fs cells holds p
+IsCompared fs cells holds (Differs p) = IsDifference fs cells holds p

@@ -14,8 +14,8 @@ use Rattle.bc_cover.specs.declared.rows.Row.{Row}
 use Rattle.bc_cover.specs.declared.rows.Kept.{Kept}
 use Rattle.bc_cover.specs.Masks.{without_bit, admits, agrees}
 use Rattle.bc_cover.specs.Groups.{held_places}
-use Rattle.bc_cover.specs.Steps.{IsAlikeAt, IsKept}
-use Rattle.bc_cover.specs.Rows.{IsRow, HasRow, IsMarked, AreNeeded, IsFaced, IsExpanding}
+use Rattle.bc_cover.specs.Steps.{IsAlikeAt, KeepOut}
+use Rattle.bc_cover.specs.Rows.{IsRow, HasRow, IsMarked, AreWitnessed, IsFaced, IsExpanding}
 use Rattle.bc_cover.proofs.PlaceFacts.{where_has}
 use Rattle.bc_cover.proofs.FilterFacts.{any_filter, any_longer}
 use Rattle.bc_cover.proofs.BitFacts.{without-lt, without_left, without_other, without_same, agrees_all, agrees_fewer, term_from_agrees}
@@ -77,7 +77,7 @@ marked_more bits few more sub rows all =
     (λ row h. ⊎_elim (λ ne. inl (shared_more row.difference few more sub ne)) (λ left. inr left) h)
     rows all
 
-pub needed_more : (outside : List ℕ) (mask : ℕ) (kept : Kept) (needed i : ℕ) (row : Row) → i < 64 → bit_at kept.bits i ≡ 1 → bit_at needed i ≡ 1 → ((j : ℕ) → j ≢ i → bit_at needed j ≡ bit_at kept.needed j) → bit_and row.difference (without_bit kept.bits i) ≡ 0 → IsRow outside mask row → AreNeeded outside mask kept → AreNeeded outside mask (record kept { needed = needed; witnesses = set kept.witnesses i row.place })
+pub needed_more : (outside : List ℕ) (mask : ℕ) (kept : Kept) (needed i : ℕ) (row : Row) → i < 64 → bit_at kept.bits i ≡ 1 → bit_at needed i ≡ 1 → ((j : ℕ) → j ≢ i → bit_at needed j ≡ bit_at kept.needed j) → bit_and row.difference (without_bit kept.bits i) ≡ 0 → IsRow outside mask row → AreWitnessed outside mask kept → AreWitnessed outside mask (record kept { needed = needed; witnesses = set kept.witnesses i row.place })
 needed_more outside mask kept needed i row low here one others alone is old = record {
   size = length-set kept.witnesses i row.place ∙ old.size;
   kept_too = λ j two.
@@ -101,7 +101,7 @@ needed_more outside mask kept needed i row low here one others alone is old = re
 }
 
 -- ---- the loop that drops bits
-pub none_needed : (outside : List ℕ) (mask : ℕ) (kept : Kept) → kept.needed ≡ 0 → length kept.witnesses ≡ 64 → AreNeeded outside mask kept
+pub none_needed : (outside : List ℕ) (mask : ℕ) (kept : Kept) → kept.needed ≡ 0 → length kept.witnesses ≡ 64 → AreWitnessed outside mask kept
 none_needed outside mask kept none size =
     let never : (i : ℕ) → bit_at kept.needed i ≢ 1 = λ i one. let z : bit_at kept.needed i ≡ 0 = ap (λ k. bit_at k i) none ∙ bit_at-zero i in omega (arith, z, one) in
     record { size = size; kept_too = λ i one. absurd (never i one); alike = λ i one. absurd (never i one) }
@@ -117,7 +117,7 @@ all_met outside mask n bits rows all each below others ne =
     both_ways _ out (eq-eqb _ _ come))
     rows each
 
-pub expanding_starts : (outside : List ℕ) (mask n : ℕ) (kept : Kept) (rows : List Row) → kept.bits ≡ 2 ^ n - 1 → AreNeeded outside mask kept → All (IsRow outside mask) rows → All (IsFaced rows kept.needed mask) outside → mask < 2 ^ n → All (λ o. o < 2 ^ n) outside → All (λ o. o ≢ mask) outside → IsExpanding outside mask n kept rows
+pub expanding_starts : (outside : List ℕ) (mask n : ℕ) (kept : Kept) (rows : List Row) → kept.bits ≡ 2 ^ n - 1 → AreWitnessed outside mask kept → All (IsRow outside mask) rows → All (IsFaced rows kept.needed mask) outside → mask < 2 ^ n → All (λ o. o < 2 ^ n) outside → All (λ o. o ≢ mask) outside → IsExpanding outside mask n kept rows
 expanding_starts outside mask n kept rows all needed each faced below others ne = record {
   within = omega (arith, all, pow_pos n);
   needed = needed;
@@ -126,11 +126,11 @@ expanding_starts outside mask n kept rows all needed each faced below others ne 
   met = all_met outside mask n kept.bits rows all each below others ne;
 }
 
-module _ (outside : List ℕ) (mask n : ℕ) (old kept : Kept) (rows seen left : List Row) (state : IsExpanding outside mask n old rows) (read : seen ≡ rows) (same : kept.bits ≡ old.bits) (marks : All (IsMarked kept.bits kept.needed) seen) (more : (i : ℕ) → bit_at old.needed i ≡ 1 → bit_at kept.needed i ≡ 1) (shows : All (IsRow outside mask) seen → AreNeeded outside mask old → AreNeeded outside mask kept) (aside : left ≡ filter (λ row. eqb (bit_and row.difference kept.needed) 0) rows) where
+module _ (outside : List ℕ) (mask n : ℕ) (old kept : Kept) (rows seen left : List Row) (state : IsExpanding outside mask n old rows) (read : seen ≡ rows) (same : kept.bits ≡ old.bits) (marks : All (IsMarked kept.bits kept.needed) seen) (more : (i : ℕ) → bit_at old.needed i ≡ 1 → bit_at kept.needed i ≡ 1) (shows : All (IsRow outside mask) seen → AreWitnessed outside mask old → AreWitnessed outside mask kept) (aside : left ≡ filter (λ row. eqb (bit_and row.difference kept.needed) 0) rows) where
   marked : All (IsMarked kept.bits kept.needed) rows
   marked = let Q : List Row → Type 0 = λ rs. All (IsMarked kept.bits kept.needed) rs in subst Q read marks
 
-  shown : AreNeeded outside mask kept
+  shown : AreWitnessed outside mask kept
   shown = shows (let Q : List Row → Type 0 = λ rs. All (IsRow outside mask) rs in subst Q (sym read) state.each) state.needed
 
   stays : (P : Row → Type 0) → All P rows → All P left
@@ -156,7 +156,7 @@ module _ (outside : List ℕ) (mask n : ℕ) (old kept : Kept) (rows seen left :
       h)
       outside state.faced
 
-  pub kept_when_none_left : length left ≡ 0 → IsKept outside mask n kept.needed kept.witnesses
+  pub kept_when_none_left : length left ≡ 0 → KeepOut outside mask n kept.needed kept.witnesses
   kept_when_none_left none = record {
     within =
         let sub : bit_and kept.needed kept.bits ≡ kept.needed =

@@ -3,7 +3,7 @@ ghost use Rattle.std.specs.Prelude.{◌≡◌, ◌≢◌, ◌^◌, ◌<◌, ◌�
 ghost use Rattle.bc_cover.specs.Masks.{places_below};
 ghost use Rattle.bc_cover.specs.Covers.{Holds};
 ghost use Rattle.bc_cover.specs.Groups.{AreGroups};
-ghost use Rattle.bc_cover.specs.Steps.{IsKept, IsPrime};
+ghost use Rattle.bc_cover.specs.Steps.{KeepOut, IsPrime};
 
 use crate::choice::{drop_kept_out, idle_bit, near_masks};
 use crate::groups::Grouped;
@@ -31,7 +31,7 @@ pub fn kept_bits(
     requires outside_groups { AreGroups outside.now.masks.now outside.now.groups.items }
     requires outside_below { All (λ other. other < 2 ^ n) outside.now.masks.now }
     requires apart { All (λ other. other ≢ mask) outside.now.masks.now }
-    ensures { IfOk result (λ kept. IsKept outside.now.masks.now mask n kept.needed kept.witnesses) }
+    ensures { IfOk result (λ kept. KeepOut outside.now.masks.now mask n kept.needed kept.witnesses) }
 {
     let mut kept = all_bits(n);
     let neighbours = neighbour_rows(alloc, outside, mask)?;

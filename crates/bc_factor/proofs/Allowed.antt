@@ -3,7 +3,7 @@ use Rattle.std.proofs.Common.{ℕ, zero, suc, List, [], ◌∷◌, ◌++◌, map
 use Rattle.bc_cover.specs.declared.term.Term.{Term}
 use Rattle.bc_cover.specs.Covers.{Literal}
 use Rattle.bc_tree.specs.declared.tree.Leaf.{Leaf}
-use Rattle.bc_tree.specs.Leaves.{IsLeaf, IsFlat, IsSolid}
+use Rattle.bc_tree.specs.Leaves.{IsLeaf, IsFlat, IsSpaceLeaf}
 use Rattle.bc_tree.specs.Shape.{Shape, union, Shapes, none, child, shapes_of, AllLeaves, EachLeaf}
 use Rattle.bc_tree.specs.Spells.{AllMeetsMeet, EachMeetMeets, HasChild, IsAllowed}
 use Rattle.bc_tree.specs.declared.product.Product.{Product}
@@ -78,6 +78,6 @@ factored_allowed block leaves terms h = record {
   meets = factored_meets block leaves terms;
   kind = ⊎_elim
       (λ flat. inl (factored_leaves IsFlat block leaves terms flat.0 flat.1))
-      (λ solid. inr (factored_leaves IsSolid block leaves terms solid.0 solid.1))
+      (λ solid. inr (factored_leaves IsSpaceLeaf block leaves terms solid.0 solid.1))
       h.kind;
 }

@@ -6,7 +6,7 @@ use Rattle.std.proofs.lemmas.Bool.Decides.{nat_tests}
 use Rattle.bc_cover.specs.Covers.{Literal, positive, negative}
 use Rattle.bc_tree.specs.declared.product.Product.{Product}
 use Rattle.bc_factor.specs.Shared.{place, count, best_count, better, most_shared_below, most_shared}
-use Rattle.bc_factor.specs.Laws.{Precedes, IsMostShared, NoneIsShared}
+use Rattle.bc_factor.specs.Laws.{LiteralPrecedes, IsMostShared, NoneIsShared}
 
 lt_true : (m n : ℕ) → nat_lt m n ≡ true → m < n
 lt_true m n e = grind (arith, nat_tests)
@@ -19,7 +19,7 @@ lt_false m n e = grind (arith, nat_tests)
 -- a best literal was seen, stands in two products at least, and comes before each other that stands in as many
 abbrev pub IsFirst : (Literal → Type 0) → List Product → Option Literal → Type 0
 IsFirst Seen ts None = Unit {0}
-IsFirst Seen ts (Some b) = Seen b × (2 ≤ count b ts) × ((m : Literal) → Seen m → count m ts ≡ count b ts → (m ≡ b) ⊎ Precedes b m)
+IsFirst Seen ts (Some b) = Seen b × (2 ≤ count b ts) × ((m : Literal) → Seen m → count m ts ≡ count b ts → (m ≡ b) ⊎ LiteralPrecedes b m)
 
 pub record IsBest (Seen : Literal → Type 0) (ts : List Product) (best : Option Literal) : Type 0 where
   pub most : (m : Literal) → Seen m → count m ts ≤ best_count best ts
@@ -45,21 +45,21 @@ taken Seen ts best l h lt =
       );
     }
 
-kept_first : (Seen : Literal → Type 0) (ts : List Product) (best : Option Literal) (l : Literal) → ((m : Literal) → Seen m → Precedes m l) → IsFirst Seen ts best → IsFirst (Also Seen l) ts best
+kept_first : (Seen : Literal → Type 0) (ts : List Product) (best : Option Literal) (l : Literal) → ((m : Literal) → Seen m → LiteralPrecedes m l) → IsFirst Seen ts best → IsFirst (Also Seen l) ts best
 kept_first Seen ts None l later h = tt
 kept_first Seen ts (Some b) l later h = (
   inl h.0,
   h.1,
-  λ m seen e. ⊎_elim (λ before. h.2 m before e) (λ same. inr (subst (λ k. Precedes b k) (sym same) (later b h.0))) seen,
+  λ m seen e. ⊎_elim (λ before. h.2 m before e) (λ same. inr (subst (λ k. LiteralPrecedes b k) (sym same) (later b h.0))) seen,
 )
 
-kept : (Seen : Literal → Type 0) (ts : List Product) (best : Option Literal) (l : Literal) → ((m : Literal) → Seen m → Precedes m l) → IsBest Seen ts best → count l ts ≤ best_count best ts → IsBest (Also Seen l) ts best
+kept : (Seen : Literal → Type 0) (ts : List Product) (best : Option Literal) (l : Literal) → ((m : Literal) → Seen m → LiteralPrecedes m l) → IsBest Seen ts best → count l ts ≤ best_count best ts → IsBest (Also Seen l) ts best
 kept Seen ts best l later h le = record {
   most = λ m seen. ⊎_elim (λ before. h.most m before) (λ same. subst (λ k. count k ts ≤ best_count best ts) (sym same) le) seen;
   first = kept_first Seen ts best l later h.first;
 }
 
-one_more : (Seen : Literal → Type 0) (ts : List Product) (best : Option Literal) (l : Literal) → ((m : Literal) → Seen m → Precedes m l) → IsBest Seen ts best → IsBest (Also Seen l) ts (better ts best l)
+one_more : (Seen : Literal → Type 0) (ts : List Product) (best : Option Literal) (l : Literal) → ((m : Literal) → Seen m → LiteralPrecedes m l) → IsBest Seen ts best → IsBest (Also Seen l) ts (better ts best l)
 one_more Seen ts best l later h =
     ⊎_elim
     (λ yes. subst (λ b. IsBest (Also Seen l) ts (if b then Some l else best)) (sym yes) (taken Seen ts best l h (lt_true _ _ yes)))
@@ -81,12 +81,12 @@ same_best Seen Other ts best to from h = record {
 abbrev Below : ℕ → Literal → Type 0
 Below n m = place m < n
 
-before_positive : (n : ℕ) (m : Literal) → Below n m → Precedes m (positive n)
+before_positive : (n : ℕ) (m : Literal) → Below n m → LiteralPrecedes m (positive n)
 before_positive n (positive i) lt = lt
 before_positive n (negative i) lt = lt
 
-before_negative : (n : ℕ) (m : Literal) → Also (Below n) (positive n) m → Precedes m (negative n)
-before_negative n m (inr same) = subst (λ k. Precedes k (negative n)) (sym same) (omega arith)
+before_negative : (n : ℕ) (m : Literal) → Also (Below n) (positive n) m → LiteralPrecedes m (negative n)
+before_negative n m (inr same) = subst (λ k. LiteralPrecedes k (negative n)) (sym same) (omega arith)
 before_negative n (positive i) (inl lt) = omega (arith, lt)
 before_negative n (negative i) (inl lt) = lt
 
@@ -140,7 +140,7 @@ pub none_chosen : (ts : List Product) → NoneIsShared ts → most_shared ts ≡
 none_chosen ts none = none_by ts (most_shared ts) refl none
 
 -- the literals come one after another
-not_both : (l m : Literal) → Precedes l m → Precedes m l → ⊥
+not_both : (l m : Literal) → LiteralPrecedes l m → LiteralPrecedes m l → ⊥
 not_both (positive i) (positive j) h k = omega (arith, h, k)
 not_both (positive i) (negative j) h k = omega (arith, h, k)
 not_both (negative i) (positive j) h k = omega (arith, h, k)

@@ -11,11 +11,11 @@ use Rattle.bc_factor.specs.Factored.{group, trees}
 -- ---- the words
 
 -- the first literal has the lesser half-space, or both have the same and the first alone is positive
-abbrev pub Precedes : Literal → Literal → Type 0
-Precedes (positive i) (positive j) = i < j
-Precedes (positive i) (negative j) = i ≤ j
-Precedes (negative i) (positive j) = i < j
-Precedes (negative i) (negative j) = i < j
+abbrev pub LiteralPrecedes : Literal → Literal → Type 0
+LiteralPrecedes (positive i) (positive j) = i < j
+LiteralPrecedes (positive i) (negative j) = i ≤ j
+LiteralPrecedes (negative i) (positive j) = i < j
+LiteralPrecedes (negative i) (negative j) = i < j
 
 -- a literal that stands in two of the products at least, and in as many as any other; of those that stand in as many it is the
 -- first
@@ -23,7 +23,7 @@ pub record IsMostShared (ts : List Product) (l : Literal) : Type 0 where
   pub half_space : place l < 64
   pub twice : 2 ≤ count l ts
   pub most : (m : Literal) → place m < 64 → count m ts ≤ count l ts
-  pub first : (m : Literal) → place m < 64 → count m ts ≡ count l ts → (m ≡ l) ⊎ Precedes l m
+  pub first : (m : Literal) → place m < 64 → count m ts ≡ count l ts → (m ≡ l) ⊎ LiteralPrecedes l m
 
 -- no literal stands in two of the products
 abbrev pub NoneIsShared : List Product → Type 0

@@ -4,7 +4,7 @@ use Rattle.std.specs.List.{All}
 use Rattle.bc_num.specs.declared.p2.P2.{P2}
 use Rattle.bc_num.specs.declared.p3.P3.{P3}
 use Rattle.bc_tree.specs.declared.tree.Leaf.{Leaf}
-use Rattle.bc_tree.specs.Leaves.{IsLeaf, IsFlat, IsSolid}
+use Rattle.bc_tree.specs.Leaves.{IsLeaf, IsFlat, IsSpaceLeaf}
 use Rattle.bc_tree.specs.Shape.{Shape}
 use Rattle.bc_tree.specs.Holds.{Holds2, Holds3}
 
@@ -17,4 +17,4 @@ pub record HoldAlike (s t : Shape) : Type 0 where
 pub record AreOfOneKind (block : Leaf) (literals : List Leaf) : Type 0 where
   pub first : IsLeaf block
   pub others : All IsLeaf literals
-  pub kind : (IsFlat block × All IsFlat literals) ⊎ (IsSolid block × All IsSolid literals)
+  pub kind : (IsFlat block × All IsFlat literals) ⊎ (IsSpaceLeaf block × All IsSpaceLeaf literals)

@@ -51,9 +51,9 @@ use Rattle.bc_notes.specs.Nodes.{is_half_space}
 use Rattle.bc_formula.specs.ContourGeometry.{contours, leaves_of, strip_leaf}
 use Rattle.bc_discs.proofs.ThreeCorners.{some_sample}
 use Rattle.bc_notes.specs.declared.shown.Shown.{Shown}
-use Rattle.bc_formula.specs.ContourPoints.{IsSampleOf, IsCandidateMask, HasArc}
+use Rattle.bc_formula.specs.ContourPoints.{IsSampleOfRegion, IsCandidateMask, HasArc}
 use Rattle.bc_formula.specs.Notes.{IsFreePoint}
-use Rattle.bc_formula.specs.Shown.{masks_of, IsShownAt, AreShown, AreParts}
+use Rattle.bc_formula.specs.Shown.{masks_of, IsShownAt, AreShown, AreShownParts}
 use Rattle.bc_formula.specs.ContourDivision.{shown2}
 use Rattle.bc_formula.proofs.Mapped.{at_place, contains_at}
 use Rattle.bc_formula.proofs.TwoLists.{any_contained}
@@ -94,7 +94,7 @@ module _ (es : List Element) (b : Box2) (t : Curves) (regions : List Region) (al
 
   -- ---- the points that are shown
 
-  named_of : (c : Candidate) (q : P2) → IsCandidate b (lines_of t) t.discs regions c → c.seen ≡ Some q → IsReduced2 q × IsSampleOf es b q
+  named_of : (c : Candidate) (q : P2) → IsCandidate b (lines_of t) t.discs regions c → c.seen ≡ Some q → IsReduced2 q × IsSampleOfRegion es b q
   named_of c q k e =
       let seen : IsSeen k.region.corners t.discs k.set (Some q) = subst (λ (o : Option P2). IsSeen k.region.corners t.discs k.set o) e k.seen in (
         seen.0,
@@ -102,7 +102,7 @@ module _ (es : List Element) (b : Box2) (t : Curves) (regions : List Region) (al
       )
 
   shown_point : (Right : P2 → Type 0) (c : Candidate) (q : P2) → Contains all c → ((p : P2) → IsOff es p → c.mask ≡ curve_mask t p → Right p) → c.seen ≡ Some q
-      → (p : P2) × (Flat q ≡ Flat p) × IsFreePoint contours es b p × IsSampleOf es b p × (curve_mask t p ≡ c.mask) × Right p
+      → (p : P2) × (Flat q ≡ Flat p) × IsFreePoint contours es b p × IsSampleOfRegion es b p × (curve_mask t p ≡ c.mask) × Right p
   shown_point Right c q h right e =
       let k = candidate_at c h in
       let w = seen_law b (lines_of t) t.discs regions c q cells.each k e in
@@ -149,7 +149,7 @@ module _ (es : List Element) (b : Box2) (t : Curves) (regions : List Region) (al
             seen s (sample_moves b (lines_of t) r.inner cell.free r.corners cell.region k.region other (cell.of_mask ∙ sym of.of_mask ∙ lines ∙ sym q.0) s sample) (record { off = off; of_set = discs ∙ sym q.1 }),
       )
 
-  found : (p : P2) → IsFreePoint contours es b p → IsSampleOf es b p → HasShown p
+  found : (p : P2) → IsFreePoint contours es b p → IsSampleOfRegion es b p → HasShown p
   found p free o =
       let F : Curves → Type 0 = λ u. (q : P2) → IsFree line_side (walls2 b) (lines_of u) q → (corners : List P2) → HasCorners line_side met2 2 (walls2 b) (lines_of u) q corners → (s : P2) → IsSample corners s → All (λ d. disc_side d s ≢ On) u.discs → IsSamePoint2 s p → HasShown p in
       subst F (sym (one_table es o.table t o.of_input of_input)) (found_in p free) o.inner o.free o.corners o.are_corners o.sample o.is_sample o.off o.same
@@ -301,7 +301,7 @@ pub contour_parts : (es : List Element) (b : Box2) (t : Curves) (regions : List 
     → AreCells IsSmallPoint line_side met2 2 (walls2 b) (lines_of t) regions
     → AreCandidates b (lines_of t) t.discs regions all
     → IsSplit es t regions all s
-    → AreParts contours es b (curve_mask t) (map shown2 s.inside) (map shown2 s.outside)
+    → AreShownParts contours es b (curve_mask t) (map shown2 s.inside) (map shown2 s.outside)
 contour_parts es b t regions all s of_input proper law straight cells cand is =
     let table = table_is es t of_input in
     record {

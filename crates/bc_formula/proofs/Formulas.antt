@@ -5,7 +5,7 @@ use Rattle.std.specs.List.{All, Any, Contains}
 use mathlib.Core.List.{map-map}
 use Rattle.std.proofs.lemmas.List.Elements.{All-contains, All-map}
 use Rattle.bc_cover.specs.declared.term.Term.{Term}
-use Rattle.bc_cover.specs.Covers.{Holds, Precedes, IsCover}
+use Rattle.bc_cover.specs.Covers.{Holds, TermPrecedes, IsCover}
 use Rattle.bc_tree.specs.declared.tree.Leaf.{Leaf}
 use Rattle.bc_tree.specs.Shape.{Shape, shape, union, shapes_of}
 use Rattle.bc_tree.specs.declared.product.Product.{Product}
@@ -46,7 +46,7 @@ products_are block leaves terms = ap (λ (shapes : List Shape). union (shapes_of
 of_terms : (leaves : List Leaf) (terms : List Term) → All (λ (t : Term). IsOfLeaves leaves (product_of t)) terms → All (IsOfLeaves leaves) (map product_of terms)
 of_terms leaves terms h = All-map (IsOfLeaves leaves) product_of terms h
 
-ascending : (terms : List Term) → ((i : ℕ) (t u : Term) → slice_get terms i ≡ Some t → slice_get terms (i + 1) ≡ Some u → Precedes t u)
+ascending : (terms : List Term) → ((i : ℕ) (t u : Term) → slice_get terms i ≡ Some t → slice_get terms (i + 1) ≡ Some u → TermPrecedes t u)
     → (i : ℕ) (one next : Product) → slice_get (map product_of terms) i ≡ Some one → slice_get (map product_of terms) (i + 1) ≡ Some next → ComesBefore one next
 ascending terms h i one next e f =
     let a = unmapped_at product_of terms i one e in

@@ -29,13 +29,14 @@ use Rattle.bc_cover.specs.declared.term.Term.{Term}
 use Rattle.bc_tree.specs.declared.frame.Frame3.{Frame3}
 use Rattle.bc_tree.specs.declared.tree.Leaf.{Leaf}
 use Rattle.bc_tree.specs.declared.tree.Leaf.TheVariants.{Block}
-use Rattle.bc_tree.specs.Leaves.{IsPrimitive3 as IsPrimitiveNormal, IsBetween, IsLeaf, IsSolid as IsSolidLeaf, IsFrame3, IsBlock, InLeaf3, InSlab, InBlock}
+use Rattle.bc_num.specs.Directions3.{IsPrimitive3}
+use Rattle.bc_tree.specs.Leaves.{IsBetween, IsLeaf, IsSpaceLeaf, IsFrame3, IsBlock, InLeaf3, InSlab, InBlock}
 use Rattle.bc_tree.specs.Near.{IsNear3, rise3}
 use Rattle.bc_tree.specs.Cuts.{cover_shape}
 use Rattle.bc_tree.specs.Spells.{IsAllowed}
 use Rattle.bc_tree.proofs.Half.{slab_half}
 use Rattle.bc_tree.proofs.Covers.{cover_leaves, cover_depth, cover_meets}
-use Rattle.bc_formula.specs.MeshGeometry.{meshes, normal_of, slab_leaf, slabs_of}
+use Rattle.bc_formula.specs.MeshGeometry.{meshes, plane_normal, slab_leaf, slabs_of}
 use Rattle.bc_formula.specs.Divisions.{AreBits}
 use Rattle.bc_formula.proofs.Formulas.{true_or_not}
 use Rattle.bc_formula.proofs.Mapped.{mapped_at, unmapped_at, at_place, mapped_all}
@@ -72,11 +73,11 @@ outside_block b p (inr (inr (inr (inr (inr h))))) k = past_side (b.z0 *ℤ p.w) 
 
 -- the frame of a plane with its origin
 abbrev frame_of : Plane3 × V3 → Frame3
-frame_of g = record { o = g.1; n = normal_of g.0 }
+frame_of g = record { o = g.1; n = plane_normal g.0 }
 
 -- a plane of a table: its normal is primitive, and its origin is on it
 pub record IsEntry (g : Plane3 × V3) : Type 0 where
-  pub primitive : IsPrimitiveNormal (normal_of g.0)
+  pub primitive : IsPrimitive3 (plane_normal g.0)
   pub on : IsOnPlane g.0 g.1
   pub sized : IsSizedPlane g.0
   pub near : AreCoords3 g.1
@@ -124,16 +125,16 @@ slab_above g b p h near k off =
     (chain (λ a. subst (λ z. pos 0 ≤ℤ z) e a, λ a. subst (λ z. pos 0 ≤ℤ z) (sym e) a) (above_or_not (plane_value g.0 p) off))
 
 -- the table of a solid
-primitive_normal : (f : Facet) → IsFacet f → IsPrimitiveNormal (normal_of f.plane)
+primitive_normal : (f : Facet) → IsFacet f → IsPrimitive3 (plane_normal f.plane)
 primitive_normal f h =
     let s = h.spanned.through in
-    subst IsPrimitiveNormal (λ i. record { x = sym s.a_is i; y = sym s.b_is i; z = sym s.c_is i }) (record { coprime = s.primitive.primitive.coprime })
+    subst IsPrimitive3 (λ i. record { x = sym s.a_is i; y = sym s.b_is i; z = sym s.c_is i }) s.primitive.primitive
 
 entries : (fs : List Facet) (t : Planes) → IsSolid fs → ArePlanes fs t → ArePlanesSized t → All IsEntry t
 entries fs t solid h sized i d l =
     let r = plane_from_face fs t h i (get_or t i d) (slice_get-get_or t i d l) in
     record {
-      primitive = subst (λ g. IsPrimitiveNormal (normal_of g)) (sym r.2.plane) (primitive_normal r.0 (All-contains IsFacet fs r.0 solid.facets r.1));
+      primitive = subst (λ g. IsPrimitive3 (plane_normal g)) (sym r.2.plane) (primitive_normal r.0 (All-contains IsFacet fs r.0 solid.facets r.1));
       on = origins_on fs t h solid.facets i d l;
       sized = sized.planes i d l;
       near = sized.origins i d l;
@@ -155,8 +156,8 @@ leaf_bits t b p entries near k clear i l s =
 slabs_ranged : (t : Planes) → All IsEntry t → All IsLeaf (slabs_of t)
 slabs_ranged t h = mapped_all IsLeaf slab_leaf t (λ i g e. slab_frame g (at_place IsEntry t i g h e))
 
-slabs_solid : (t : Planes) → All IsSolidLeaf (slabs_of t)
-slabs_solid t = mapped_all IsSolidLeaf slab_leaf t (λ i g e. tt)
+slabs_solid : (t : Planes) → All IsSpaceLeaf (slabs_of t)
+slabs_solid t = mapped_all IsSpaceLeaf slab_leaf t (λ i g e. tt)
 
 -- ---- what a formula needs
 
@@ -165,7 +166,7 @@ allowed b t terms entries near = record {
   ranges = cover_leaves IsLeaf (Block b) (slabs_of t) terms (box_block b near) (slabs_ranged t entries);
   nested = omega (arith, cover_depth (Block b) (slabs_of t) terms);
   meets = cover_meets (Block b) (slabs_of t) terms;
-  kind = inr (cover_leaves IsSolidLeaf (Block b) (slabs_of t) terms tt (slabs_solid t));
+  kind = inr (cover_leaves IsSpaceLeaf (Block b) (slabs_of t) terms tt (slabs_solid t));
 }
 
 pub bits_of : (fs : List Facet) (b : Box3) (t : Planes) → IsSolid fs → ArePlanes fs t → ArePlanesSized t → ArePlanesFew t → IsBoxOf3 fs b → IsNearBox3 b → OutsideLaw3 fs → AreBits meshes fs b (slabs_of t) (plane_mask t)

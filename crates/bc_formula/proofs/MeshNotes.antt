@@ -36,7 +36,7 @@ use Rattle.bc_formula.specs.MeshGeometry.{meshes, slabs_of, slab_leaf}
 use Rattle.bc_notes.specs.declared.shown.Shown.{Shown}
 use Rattle.bc_formula.specs.MeshPoints.{IsCellMask}
 use Rattle.bc_formula.specs.Notes.{IsFreePoint}
-use Rattle.bc_formula.specs.Shown.{masks_of, IsShownAt, AreShown, AreParts}
+use Rattle.bc_formula.specs.Shown.{masks_of, IsShownAt, AreShown, AreShownParts}
 use Rattle.bc_formula.specs.MeshDivision.{shown3}
 use Rattle.bc_formula.proofs.ContourPoints.{less}
 use Rattle.bc_formula.proofs.MeshMasks.{above_walls3}
@@ -212,7 +212,7 @@ marks_masks3 (m ∷ ms) = ap (λ ns. m.mask ∷ ns) (marks_masks3 ms)
 pub mesh_parts : (fs : List Facet) (b : Box3) (t : Planes) (cells : List Cell3) (s : Split3) → ArePlanes fs t → OddCellLaw fs t
     → AreCells IsLargePoint3 plane_side met3 3 (walls3 b) (planes_of t) cells
     → IsSplit3 fs cells s
-    → AreParts meshes fs b (plane_mask t) (map shown3 s.inside) (map shown3 s.outside)
+    → AreShownParts meshes fs b (plane_mask t) (map shown3 s.inside) (map shown3 s.outside)
 mesh_parts fs b t cells s table law are is = record {
   inside_shown = subst (AreShown meshes fs b (plane_mask t) (Odd3 fs)) (sym (ap (map shown3) is.inside)) (inside_shown3 fs b t cells table law are);
   outside_shown = subst (AreShown meshes fs b (plane_mask t) (λ p. Odd3 fs p → ⊥)) (sym (ap (map shown3) is.outside)) (outside_shown3 fs b t cells table law are);

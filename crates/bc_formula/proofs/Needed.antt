@@ -4,7 +4,7 @@ use Rattle.std.specs.Prelude.{slice_get, slice_index_or}
 use Rattle.std.specs.List.{All, AllZip}
 use Rattle.std.proofs.lemmas.List.Elements.{All-cons, All-nil, All-map}
 use Rattle.bc_cover.specs.declared.term.Term.{Term}
-use Rattle.bc_cover.specs.Covers.{Holds, Literal, without, IsBlock, IsCover}
+use Rattle.bc_cover.specs.Covers.{Holds, Literal, without, IsLetIn, IsCover}
 use Rattle.bc_tree.specs.declared.tree.Leaf.{Leaf}
 use Rattle.bc_tree.specs.declared.product.Product.{Product}
 use Rattle.bc_tree.specs.Cuts.{product_of}
@@ -49,7 +49,7 @@ module _ {B P X : Type 0} (k : Geometry B P X) (b : B) (box : X) (bits : ℕ) (i
   abbrev KeepsOut : Product → Literal → Type 0
   KeepsOut q l = (mask : ℕ) × k.has_mask b box false mask × HoldsMask (without_literal q l) mask
 
-  blocked : (t : Term) (ls : List Literal) (places : List ℕ) → AllZip (IsBlock (masks_of outside) t) ls places → All (KeepsOut (product_of t)) ls
+  blocked : (t : Term) (ls : List Literal) (places : List ℕ) → AllZip (IsLetIn (masks_of outside) t) ls places → All (KeepsOut (product_of t)) ls
   blocked t [] [] z = All-nil (KeepsOut (product_of t))
   blocked t [] (x ∷ xs) z = absurd z
   blocked t (l ∷ ls) [] z = absurd z

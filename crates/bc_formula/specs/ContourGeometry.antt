@@ -16,7 +16,7 @@ use Rattle.bc_tree.specs.Leaves.{InLeaf2}
 use Rattle.bc_text.specs.declared.note.Head.TheVariants.{Contour}
 use Rattle.bc_text.specs.declared.note.Spot.TheVariants.{Flat}
 use Rattle.bc_num.specs.Points.{IsReduced2}
-use Rattle.bc_formula.specs.ContourPoints.{IsSampleOf, IsCandidateMask, HasArc}
+use Rattle.bc_formula.specs.ContourPoints.{IsSampleOfRegion, IsCandidateMask, HasArc}
 use Rattle.bc_formula.specs.Geometry.{Geometry}
 
 -- the direction whose normal, turned to the left, is that of the line
@@ -51,7 +51,7 @@ contours = record {
   in_leaf = InLeaf2;
   reduced = IsReduced2;
   spot = Flat;
-  named = IsSampleOf;
+  named = IsSampleOfRegion;
   may_fail = HasArc;
   has_mask = IsCandidateMask;
 }

@@ -18,7 +18,7 @@ use Rattle.bc_discs.specs.Laws.{IsRegion}
 use Rattle.bc_classify.specs.OddMasks.{is_odd_mask}
 
 -- as a rational point, p is a sample of the region of some free point, on no circle
-pub record IsSampleOf (es : List Element) (box : Box2) (p : P2) : Type 0 where
+pub record IsSampleOfRegion (es : List Element) (box : Box2) (p : P2) : Type 0 where
   pub table : Curves
   pub of_input : AreCurves es table
   pub inner : P2

@@ -17,7 +17,7 @@ use Rattle.bc_notes.specs.Chosen.{IsNoteOf}
 use Rattle.bc_formula.specs.declared.terms.Formula.{Formula}
 use Rattle.bc_formula.specs.declared.terms.Division.{Division}
 use Rattle.bc_formula.specs.Geometry.{Geometry}
-use Rattle.bc_formula.specs.Shown.{masks_of, AreParts}
+use Rattle.bc_formula.specs.Shown.{masks_of, AreShownParts}
 
 -- the masks are ones that a cover is found of: none stands twice, and none has a bit for which there is no leaf
 pub record AreMasks (leaves : List Leaf) (inside outside : List ℕ) : Type 0 where
@@ -54,7 +54,7 @@ pub record IsDivision {B P X : Type 0} (k : Geometry B P X) (b : B) (box : X) (d
   pub half_spaces : All (λ l. is_half_space l ≡ true) d.leaves
   pub masks : AreMasks d.leaves (masks_of d.inside.items) (masks_of d.outside.items)
   pub divided : AreDivided k b box mask_at (masks_of d.inside.items) (masks_of d.outside.items)
-  pub parts : AreParts k b box mask_at d.inside.items d.outside.items
+  pub parts : AreShownParts k b box mask_at d.inside.items d.outside.items
 
 -- the formula is that of terms that cover the masks of the division
 pub record IsMadeOf (d : Division) (f : Formula) : Type 0 where

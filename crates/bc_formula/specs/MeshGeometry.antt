@@ -18,12 +18,12 @@ use Rattle.bc_formula.specs.MeshPoints.{IsCellMask}
 use Rattle.bc_formula.specs.Geometry.{Geometry}
 
 -- the normal of the plane
-abbrev pub normal_of : Plane3 → V3
-normal_of h = record { x = h.a; y = h.b; z = h.c }
+abbrev pub plane_normal : Plane3 → V3
+plane_normal h = record { x = h.a; y = h.b; z = h.c }
 
 -- the slab of a plane with its origin
 abbrev pub slab_leaf : Plane3 × V3 → Leaf
-slab_leaf e = Slab (record { o = e.1; n = normal_of e.0 })
+slab_leaf e = Slab (record { o = e.1; n = plane_normal e.0 })
 
 abbrev pub slabs_of : Planes → List Leaf
 slabs_of t = map slab_leaf t

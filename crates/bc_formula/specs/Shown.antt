@@ -30,7 +30,7 @@ pub record AreShown {B P X : Type 0} (k : Geometry B P X) (b : B) (box : X) (mas
   pub failed : All (λ (m : Shown). m.spot ≡ None → k.may_fail b) ms
 
 -- the odd masks and the even ones, each of them, with the points that show them
-pub record AreParts {B P X : Type 0} (k : Geometry B P X) (b : B) (box : X) (mask_at : P → ℕ) (inside outside : List Shown) : Type 0 where
+pub record AreShownParts {B P X : Type 0} (k : Geometry B P X) (b : B) (box : X) (mask_at : P → ℕ) (inside outside : List Shown) : Type 0 where
   pub inside_shown : AreShown k b box mask_at (k.odd b) inside
   pub outside_shown : AreShown k b box mask_at (λ p. k.odd b p → ⊥) outside
   pub inside_masks : All (λ (m : Shown). k.has_mask b box true m.mask) inside

@@ -9,7 +9,7 @@ ghost use Rattle.bc_num.specs.declared.box2.Box2.{Box2 as ABox};
 ghost use Rattle.bc_natural.specs.Masks.{curve_mask};
 ghost use Rattle.bc_text.specs.declared.note.Head.TheVariants.{Contour};
 ghost use Rattle.bc_text.specs.declared.note.Spot.TheVariants.{Flat as FlatSpot};
-ghost use Rattle.bc_formula.specs.Shown.{masks_of, AreParts};
+ghost use Rattle.bc_formula.specs.Shown.{masks_of, AreShownParts};
 ghost use Rattle.bc_formula.specs.ContourDivision.{shown2};
 ghost use Rattle.bc_formula.specs.ContourGeometry.{contours, direction_of, leaves_of, strip_leaf};
 ghost use Rattle.bc_formula.specs.Headline.{IsFormula};
@@ -66,7 +66,7 @@ fn divide(
     requires near { IsNearBox tile.now }
     ensures masks { IfOk result (λ m. AreMasks (leaves_of table.now) (masks_of m.inside.items) (masks_of m.outside.items)) }
     ensures divided { IfOk result (λ m. AreDivided contours profile.now tile.now (curve_mask table.now) (masks_of m.inside.items) (masks_of m.outside.items)) }
-    ensures parts { IfOk result (λ m. AreParts contours profile.now tile.now (curve_mask table.now) m.inside.items m.outside.items) }
+    ensures parts { IfOk result (λ m. AreShownParts contours profile.now tile.now (curve_mask table.now) m.inside.items m.outside.items) }
 {
     let lines = table.line_list(alloc)?;
     let discs = table.disc_list(alloc)?;

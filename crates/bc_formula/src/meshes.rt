@@ -4,10 +4,10 @@ ghost use Rattle.bc_num.specs.declared.box3.Box3.{Box3 as ABox};
 ghost use Rattle.bc_natural.specs.Planes.{ArePlanes, ArePlanesSized, ArePlanesFew, IsPlaneLimitFault, IsNearBox3, plane_mask};
 ghost use Rattle.bc_text.specs.declared.note.Head.TheVariants.{Solid as SolidHead};
 ghost use Rattle.bc_tree.specs.Shape.{shape};
-ghost use Rattle.bc_formula.specs.Shown.{masks_of, AreParts};
+ghost use Rattle.bc_formula.specs.Shown.{masks_of, AreShownParts};
 ghost use Rattle.bc_formula.specs.MeshDivision.{shown3};
 ghost use Rattle.bc_formula.specs.Divisions.{AreDivided, AreMasks, IsDivision};
-ghost use Rattle.bc_formula.specs.MeshGeometry.{meshes, normal_of, slabs_of};
+ghost use Rattle.bc_formula.specs.MeshGeometry.{meshes, plane_normal, slabs_of};
 ghost use Rattle.bc_formula.specs.Headline.{IsFormula};
 
 use crate::terms::{Division, Formula, Parts, formula_of};
@@ -56,7 +56,7 @@ fn divide(alloc: Global, solid: &Solid, table: &PlaneTable, block: &Box3) -> Res
     requires near { IsNearBox3 block.now }
     ensures masks { IfOk result (λ m. AreMasks (slabs_of table.now) (masks_of m.inside.items) (masks_of m.outside.items)) }
     ensures divided { IfOk result (λ m. AreDivided meshes solid.now block.now (plane_mask table.now) (masks_of m.inside.items) (masks_of m.outside.items)) }
-    ensures parts { IfOk result (λ m. AreParts meshes solid.now block.now (plane_mask table.now) m.inside.items m.outside.items) }
+    ensures parts { IfOk result (λ m. AreShownParts meshes solid.now block.now (plane_mask table.now) m.inside.items m.outside.items) }
 {
     let planes = table.plane_list(alloc)?;
     let all = cells::<Solid3>(alloc, block, planes.as_slice())?;
@@ -69,7 +69,7 @@ fn divide(alloc: Global, solid: &Solid, table: &PlaneTable, block: &Box3) -> Res
 }
 
 fn normal(plane: &Plane3) -> V3
-    ensures { result ≡ normal_of plane.now }
+    ensures { result ≡ plane_normal plane.now }
 {
     V3 {
         x: plane.a,

@@ -8,7 +8,7 @@ use Rattle.bc_natural.proofs.FirstSeen.{filtered}
 use Rattle.bc_tree.specs.declared.tree.Leaf.{Leaf}
 use Rattle.bc_notes.specs.declared.shown.Shown.{Shown}
 use Rattle.bc_formula.specs.Geometry.{Geometry}
-use Rattle.bc_formula.specs.Shown.{masks_of, AreShown, AreParts}
+use Rattle.bc_formula.specs.Shown.{masks_of, AreShown, AreShownParts}
 use Rattle.bc_formula.specs.Divisions.{AreMasks, AreDivided}
 use Rattle.bc_formula.proofs.TwoLists.{distinct_masks, masks_below}
 
@@ -30,7 +30,7 @@ pub record AreKnown {B P X A : Type 0} (k : Geometry B P X) (b : B) (box : X) (l
 pub record AreTold {B P X : Type 0} (k : Geometry B P X) (b : B) (box : X) (leaves : List Leaf) (mask_at : P → ℕ) (inside outside : List Shown) : Type 0 where
   pub masks : AreMasks leaves (masks_of inside) (masks_of outside)
   pub divided : AreDivided k b box mask_at (masks_of inside) (masks_of outside)
-  pub parts : AreParts k b box mask_at inside outside
+  pub parts : AreShownParts k b box mask_at inside outside
 
 pub two_maps : {X Y Z : Type 0} (f : Y → Z) (g : X → Y) (xs : List X) → map f (map g xs) ≡ map (λ x. f (g x)) xs
 two_maps f g [] = refl
@@ -77,7 +77,7 @@ module _ {B P X A : Type 0} (k : Geometry B P X) (b : B) (box : X) (leaves : Lis
         subst (Contains (masks_of (map show (filter (λ c. not (test c)) all)))) e (listed (λ c. not (test c)) c h (not_passed (test c) (λ t. even (iff.1 t))));
   }
 
-  are_parts : AreParts k b box mask_at (map show (filter test all)) (map show (filter (λ c. not (test c)) all))
+  are_parts : AreShownParts k b box mask_at (map show (filter test all)) (map show (filter (λ c. not (test c)) all))
   are_parts = record {
     inside_shown = facts.inside_shown;
     outside_shown = facts.outside_shown;

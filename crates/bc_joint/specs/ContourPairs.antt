@@ -21,7 +21,7 @@ use Rattle.bc_text.specs.declared.note.Head.TheVariants.{Contour}
 use Rattle.bc_text.specs.declared.note.Spot.TheVariants.{Flat}
 use Rattle.bc_formula.specs.Geometry.{Geometry}
 use Rattle.bc_formula.specs.ContourGeometry.{AreLeaves2}
-use Rattle.bc_formula.specs.ContourPoints.{IsSampleOf, HasArc}
+use Rattle.bc_formula.specs.ContourPoints.{IsSampleOfRegion, HasArc}
 use Rattle.bc_joint.specs.Pairs.{Pair, both}
 
 -- the operation is true of whether the downward rays from q cross the first and the second part oddly
@@ -59,7 +59,7 @@ contour_pairs op = record {
   in_leaf = InLeaf2;
   reduced = IsReduced2;
   spot = Flat;
-  named = λ p. IsSampleOf (both p);
+  named = λ p. IsSampleOfRegion (both p);
   may_fail = λ p. HasArc (both p);
   has_mask = IsChosenMask op;
 }

@@ -9,7 +9,7 @@ ghost use Rattle.bc_natural.specs.Limits.{AreSized, AreFew, IsLimitFault, IsNear
 ghost use Rattle.bc_natural.specs.Masks.{curve_mask};
 ghost use Rattle.bc_text.specs.declared.note.Head.TheVariants.{Contour};
 ghost use Rattle.bc_tree.specs.Shape.{shape};
-ghost use Rattle.bc_formula.specs.Shown.{masks_of, AreParts};
+ghost use Rattle.bc_formula.specs.Shown.{masks_of, AreShownParts};
 ghost use Rattle.bc_formula.specs.Divisions.{AreDivided, AreMasks, IsDivision};
 ghost use Rattle.bc_formula.specs.ContourGeometry.{leaves_of};
 ghost use Rattle.bc_formula.specs.Headline.{IsFormula};
@@ -60,7 +60,7 @@ fn divide(
     requires near { IsNearBox tile.now }
     ensures masks { IfOk result (λ m. AreMasks (leaves_of table.now) (masks_of m.inside.items) (masks_of m.outside.items)) }
     ensures divided { IfOk result (λ m. AreDivided (contour_pairs op) (pair a.now b.now) tile.now (curve_mask table.now) (masks_of m.inside.items) (masks_of m.outside.items)) }
-    ensures parts { IfOk result (λ m. AreParts (contour_pairs op) (pair a.now b.now) tile.now (curve_mask table.now) m.inside.items m.outside.items) }
+    ensures parts { IfOk result (λ m. AreShownParts (contour_pairs op) (pair a.now b.now) tile.now (curve_mask table.now) m.inside.items m.outside.items) }
 {
     let lines = table.line_list(alloc)?;
     let discs = table.disc_list(alloc)?;

@@ -8,7 +8,7 @@ ghost use Rattle.bc_solid.specs.Meshes.{corner_count};
 ghost use Rattle.bc_natural.specs.Planes.{ArePlanes, ArePlanesSized, ArePlanesFew, IsPlaneLimitFault, IsNearBox3, plane_mask};
 ghost use Rattle.bc_text.specs.declared.note.Head.TheVariants.{Solid as SolidHead};
 ghost use Rattle.bc_tree.specs.Shape.{shape};
-ghost use Rattle.bc_formula.specs.Shown.{masks_of, AreParts};
+ghost use Rattle.bc_formula.specs.Shown.{masks_of, AreShownParts};
 ghost use Rattle.bc_formula.specs.Divisions.{AreDivided, AreMasks, IsDivision};
 ghost use Rattle.bc_formula.specs.MeshGeometry.{slabs_of};
 ghost use Rattle.bc_formula.specs.Headline.{IsFormula};
@@ -57,7 +57,7 @@ fn divide(
     requires near { IsNearBox3 block.now }
     ensures masks { IfOk result (λ m. AreMasks (slabs_of table.now) (masks_of m.inside.items) (masks_of m.outside.items)) }
     ensures divided { IfOk result (λ m. AreDivided (mesh_pairs op) (pair a.now b.now) block.now (plane_mask table.now) (masks_of m.inside.items) (masks_of m.outside.items)) }
-    ensures parts { IfOk result (λ m. AreParts (mesh_pairs op) (pair a.now b.now) block.now (plane_mask table.now) m.inside.items m.outside.items) }
+    ensures parts { IfOk result (λ m. AreShownParts (mesh_pairs op) (pair a.now b.now) block.now (plane_mask table.now) m.inside.items m.outside.items) }
 {
     let planes = table.plane_list(alloc)?;
     let all = cells::<Solid3>(alloc, block, planes.as_slice())?;

@@ -26,7 +26,8 @@ use Rattle.bc_tree.specs.declared.tree.Leaf.{Leaf}
 use Rattle.bc_tree.specs.declared.tree.Leaf.TheVariants as leaves
 use Rattle.bc_tree.specs.declared.frame.Frame2.{Frame2}
 use Rattle.bc_tree.specs.declared.frame.Frame3.{Frame3}
-use Rattle.bc_tree.specs.Leaves.{IsBetween, IsPrimitive3, IsFrame2, IsFrame3, IsLeaf}
+use Rattle.bc_num.specs.Directions3.{IsPrimitive3}
+use Rattle.bc_tree.specs.Leaves.{IsBetween, IsFrame2, IsFrame3, IsLeaf}
 use Rattle.bc_read.specs.declared.part.Form.{Form}
 use Rattle.bc_read.specs.declared.part.Form.TheVariants.{Slab, Strip, Disc, Block, Tile}
 use Rattle.bc_read.specs.Leaves.{form_of, numbers_of, LongSays, LongTells, is_near, is_between, gcd_within, gcd, is_primitive2, is_primitive3, is_leaf, less_by, where_less, disc_at, tile_at, block_at, candidate, checked, IsSideFrom, long_of}

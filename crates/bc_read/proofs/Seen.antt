@@ -9,7 +9,7 @@ use Rattle.bc_tree.specs.declared.tree.Leaf.{Leaf as ALeaf}
 use Rattle.bc_tree.specs.declared.tree.Leaf.TheVariants as leaves
 use Rattle.bc_tree.specs.declared.tree.Tree.{Tree, the_lemmas}
 use Rattle.bc_tree.specs.declared.tree.Tree.TheVariants as trees
-use Rattle.bc_tree.specs.Leaves.{IsLeaf, IsFlat, IsSolid}
+use Rattle.bc_tree.specs.Leaves.{IsLeaf, IsFlat, IsSpaceLeaf}
 use Rattle.bc_tree.specs.Shape.{Shape, leaf, union, meet, cut, Shapes, none, child, shape, shapes, depth, depths, AllLeaves, EachLeaf}
 use Rattle.bc_tree.specs.Words.{long_words, short_words, IsWords, AreWords}
 use Rattle.bc_tree.specs.Spells.{AllMeetsMeet, EachMeetMeets, IsAllowed, Spells}
@@ -56,7 +56,7 @@ shape-Cut t ts = search (rules, the_lemmas)
 -- of the kind of the leaves so far
 abbrev pub KindOf : Option Bool → ALeaf → Type 0
 KindOf None l = ⊥
-KindOf (Some true) l = IsSolid l
+KindOf (Some true) l = IsSpaceLeaf l
 KindOf (Some false) l = IsFlat l
 
 abbrev pub IsOk : Option Bool → ALeaf → Type 0
@@ -570,7 +570,7 @@ run-stands e s (token a rest) t ws h r =
     let m = run-stands e b.0 rest t (ws ++ a.text ∷ []) k b.2 in
     record { us = a.text ∷ m.us; rest = ap (cons a.text) m.rest; whole_is = subst (Whole t) (append_assoc ws (a.text ∷ []) m.us) m.whole_is }
 
-kind-of : (seen : Option Bool) (s : Shape) → AllLeaves (IsOk seen) s → AllLeaves IsFlat s ⊎ AllLeaves IsSolid s
+kind-of : (seen : Option Bool) (s : Shape) → AllLeaves (IsOk seen) s → AllLeaves IsFlat s ⊎ AllLeaves IsSpaceLeaf s
 kind-of None s h = inl (all-map (λ l k. absurd k.1) s h)
 kind-of (Some true) s h = inr (all-map (λ l k. k.1) s h)
 kind-of (Some false) s h = inl (all-map (λ l k. k.1) s h)

@@ -13,7 +13,7 @@ use Rattle.bc_tree.specs.declared.tree.Leaf.{Leaf as ALeaf}
 use Rattle.bc_tree.specs.declared.tree.Leaf.TheVariants as leaves
 use Rattle.bc_tree.specs.declared.tree.Tree.{Tree}
 use Rattle.bc_tree.specs.declared.tree.Tree.TheVariants as trees
-use Rattle.bc_tree.specs.Leaves.{IsBetween, IsLeaf, IsFlat, IsSolid, u_at, v_at, u_of, v_of, normal_of}
+use Rattle.bc_tree.specs.Leaves.{IsBetween, IsLeaf, IsFlat, IsSpaceLeaf, u_at, v_at, u_of, v_of, normal_of}
 use Rattle.bc_tree.specs.Shape.{Shape, leaf, union, meet, cut, Shapes, none, child, shape, shapes, depth, depths, AllLeaves, EachLeaf}
 use Rattle.bc_tree.specs.Axis.{IsAxis, corner_at, side_at}
 use Rattle.bc_tree.specs.Words.{long_words, short_words, IsLeafWords, IsWords, AreWords}
@@ -582,7 +582,7 @@ read-kind text s k h g =
     let o = read_one s h.words h.spelled k [] None (end_line text) (stream text) [] (inl refl) (of-kind k s a.ranges g) a.meets (omega arith) r in
     (o.tree, o.is, o.to.same ∙ ends (end_line text) o.tree o.seen_now o.to.rest o.to.left)
 
-spelled-by : (text : List ℕ) (s : Shape) → Spells text s → AllLeaves IsFlat s ⊎ AllLeaves IsSolid s → (t : Tree) × (shape t ≡ s) × (reading_of text ≡ Ok t)
+spelled-by : (text : List ℕ) (s : Shape) → Spells text s → AllLeaves IsFlat s ⊎ AllLeaves IsSpaceLeaf s → (t : Tree) × (shape t ≡ s) × (reading_of text ≡ Ok t)
 spelled-by text s h (inl k) = read-kind text s false h k
 spelled-by text s h (inr k) = read-kind text s true h k
 

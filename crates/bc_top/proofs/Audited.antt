@@ -31,11 +31,11 @@ use Rattle.bc_top.specs.Texts.{IsTooLong}
 use Rattle.bc_top.specs.Joined.{HasParts, IsOfSecond}
 use Rattle.bc_top.specs.MeshTexts.{HasSolid, IsMeshTextFault}
 use Rattle.bc_top.specs.TreeTexts.{HasTree, IsTreeFault}
-use Rattle.bc_top.specs.Audits.{HasVerdict, IsAudited, verdict_text, IsUnaudited, IsPartsFault, IsAuditRefusal, AreFit, IsAuditable, audits}
+use Rattle.bc_top.specs.Audits.{HasVerdict, IsAudited, verdict_text, IsUnaudited, IsAuditedFault, IsAuditRefusal, AreFit, IsAuditable, audits}
 use Rattle.bc_top.specs.Promises.{Fulfils}
 use Rattle.bc_top.proofs.Asking.{no_tree_fault}
 use Rattle.bc_top.proofs.Fulfilled.{IsHonest, fulfils_put, fulfils_stop}
-use Rattle.bc_top.proofs.Parted.{second_short, stops_more, stops_unread}
+use Rattle.bc_top.proofs.Parted.{second_short, stops_unread}
 use Rattle.bc_top.proofs.Settled.{no_mesh_fault, one_solid}
 
 -- ---- no answer and a fault
@@ -47,7 +47,7 @@ no_unaudited fs tree f leaves solid fit (inr (inl (e, not_flat, h))) =
 no_unaudited fs tree f leaves solid fit (inr (inr (n, e, not_flat, h))) =
     absurd (omega (arith, ap length (one_list fs tree fit.planes h.planes (frames tree leaves) fit.are_planes h.are_planes), fit.few, h.many, h.count))
 
-no_parts_fault : (p : Two) (f : Refusal) (fs : List Facet) (tree : Shape) → HasSolid p.first fs → HasTree p.second tree → (HasFlat tree → ⊥) → AreFit fs tree → IsPartsFault p f → ⊥
+no_parts_fault : (p : Two) (f : Refusal) (fs : List Facet) (tree : Shape) → HasSolid p.first fs → HasTree p.second tree → (HasFlat tree → ⊥) → AreFit fs tree → IsAuditedFault p f → ⊥
 no_parts_fault p f fs tree mesh formula solid fit (inl (e, more)) = absurd (omega (arith, more, mesh.few))
 no_parts_fault p f fs tree mesh formula solid fit (inr (inl (few, fault))) = no_mesh_fault p.first f fs fault mesh
 no_parts_fault p f fs tree mesh formula solid fit (inr (inr (inl (gs, k, (g, fault, e))))) = no_tree_fault p.second g tree fault formula
@@ -67,7 +67,7 @@ no_audit_fault bytes f (inr (inr (p, k, fault))) t =
 -- ---- why parts are not audited
 
 module _ (bytes : List ℕ) (p : Two) (h : HasParts MOST_CSG_BYTES bytes p) where
-  pub unread_parts : (f : Refusal) → IsPartsFault p f → IsAuditRefusal bytes f
+  pub unread_parts : (f : Refusal) → IsAuditedFault p f → IsAuditRefusal bytes f
   unread_parts f fault = inr (inr (p, h, fault))
 
   -- the first part is no mesh
@@ -103,7 +103,7 @@ module _ (bytes : List ℕ) (p : Two) (h : HasParts MOST_CSG_BYTES bytes p) wher
 -- ---- why what was read is not audited
 
 -- what two parts are refused for is not their length together
-not_long : (bytes : List ℕ) (p : Two) (f : Refusal) → HasParts MOST_CSG_BYTES bytes p → IsPartsFault p f → f ≢ refusals.TooLong
+not_long : (bytes : List ℕ) (p : Two) (f : Refusal) → HasParts MOST_CSG_BYTES bytes p → IsAuditedFault p f → f ≢ refusals.TooLong
 not_long bytes p f h (inl (e, more)) t = cc
 not_long bytes p f h (inr (inl (few, inl (e, more)))) t = absurd (omega (arith, few, more))
 not_long bytes p f h (inr (inl (few, inr (inl (g, e, short, first))))) t = cc (e, t)
@@ -120,10 +120,6 @@ not_long_of bytes f few (inr (inl (e, none))) t = cc (e, t)
 not_long_of bytes f few (inr (inr (p, h, fault))) t = not_long bytes p f h fault t
 
 module _ (r : Reading) where
-  -- the bytes were not read, as they are too long or the source failed
-  pub stops_long : (s : Status) → Stops MOST_CSG_BYTES (IsTooLong MOST_CSG_BYTES) r s → Stops MOST_CSG_BYTES IsAuditRefusal r s
-  stops_long s h = stops_more MOST_CSG_BYTES (IsTooLong MOST_CSG_BYTES) IsAuditRefusal (λ bytes f k. inl k) s r h
-
   pub stops_audit : (s : Status) (bytes : List ℕ) → IsRead r bytes → length bytes ≤ MOST_CSG_BYTES → IsUnread IsAuditRefusal bytes s → Stops MOST_CSG_BYTES IsAuditRefusal r s
   stops_audit s bytes read few h = stops_unread MOST_CSG_BYTES IsAuditRefusal bytes (λ f k. not_long_of bytes f few k) s r read h
 

@@ -9,7 +9,7 @@ use Rattle.std.proofs.lemmas.List.Elements.{All-nil, All-cons, All-map, All-cont
 use Rattle.std.proofs.lemmas.Nat.Bits.{bit_at_ones}
 use Rattle.bc_cover.specs.declared.term.Term.{Term}
 use Rattle.bc_tree.specs.declared.tree.Leaf.{Leaf}
-use Rattle.bc_tree.specs.Leaves.{IsLeaf, IsFlat, IsSolid}
+use Rattle.bc_tree.specs.Leaves.{IsLeaf, IsFlat, IsSpaceLeaf}
 use Rattle.bc_tree.specs.Shape.{Shape, leaf, shape, shapes_of, EachLeaf}
 use Rattle.bc_tree.specs.Holds.{HoldsBy}
 use Rattle.bc_tree.specs.Cuts.{picked, cover_shape}
@@ -66,7 +66,7 @@ module _ (block : Leaf) (leaves : List Leaf) where
       record {
         first = a.ranges.0.0.0;
         others = of_full IsLeaf a.ranges.0.0.1;
-        kind = ⊎_elim (λ flat. inl (flat.0.0.0, of_full IsFlat flat.0.0.1)) (λ solid. inr (solid.0.0.0, of_full IsSolid solid.0.0.1)) a.kind;
+        kind = ⊎_elim (λ flat. inl (flat.0.0.0, of_full IsFlat flat.0.0.1)) (λ solid. inr (solid.0.0.0, of_full IsSpaceLeaf solid.0.0.1)) a.kind;
       }
 
 -- ---- the tree

@@ -88,9 +88,6 @@ trials_alone k n = record { input = refl; good = λ f e. e; no_fault = λ bytes 
 pub trials_put : (k : Kind) (n : ℕ) (s : Status) (r : Reading) (w : Writing) (text : List ℕ) → Keeps r.left r.rest → IsTrial k n text → IsPut text s w → Fulfils (trials k n) s r w
 trials_put k n s r w text u t put = alone_put (trials k n) (trials_alone k n) s r w text u t put
 
-pub trials_stop : (k : Kind) (n : ℕ) (s : Status) (r : Reading) (w : Writing) → Keeps r.left r.rest → s ≡ Memory → Keeps w.held w.grown → Fulfils (trials k n) s r w
-trials_stop k n s r w u is e = subst (λ (t : Status). Fulfils (trials k n) t r w) (sym is) (alone_stop (trials k n) (trials_alone k n) r w u e)
-
 -- ---- faults that do not come
 
 pub if_err : {A B : Type 0} (r : Result A B) (P : B → Type 0) (e : B) → r ≡ Err e → P e → IfErr r P

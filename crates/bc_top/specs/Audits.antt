@@ -64,8 +64,8 @@ IsUnaudited fs tree f =
 
 -- the first cause why two parts are not audited: the first is too long, or no closed mesh; or the second is no tree; or this tree
 -- is not audited
-abbrev pub IsPartsFault : Two → Refusal → Type 0
-IsPartsFault p f =
+abbrev pub IsAuditedFault : Two → Refusal → Type 0
+IsAuditedFault p f =
     ((f ≡ refusals.PartTooLong 1) × (MOST_BYTES < length p.first))
     ⊎ (((length p.first ≤ MOST_BYTES) × IsMeshTextFault p.first f)
     ⊎ (((fs : List Facet) × HasSolid p.first fs × IsOfSecond IsTreeFault p.second f)
@@ -76,7 +76,7 @@ abbrev pub IsAuditRefusal : List ℕ → Refusal → Type 0
 IsAuditRefusal bytes f =
     IsTooLong MOST_CSG_BYTES bytes f
     ⊎ (((f ≡ refusals.NoPart) × HasNoParts MOST_CSG_BYTES bytes)
-    ⊎ ((p : Two) × HasParts MOST_CSG_BYTES bytes p × IsPartsFault p f))
+    ⊎ ((p : Two) × HasParts MOST_CSG_BYTES bytes p × IsAuditedFault p f))
 
 -- ---- what is never refused
 

@@ -4,8 +4,9 @@ use Rattle.std.proofs.lemmas.Int.{ints}
 use lib.IntN.{ℤ, pos, negsuc, ◌+ℤ◌, ◌-ℤ◌, ◌*ℤ◌, neg_ℤ}
 use Rattle.bc_algebra.proofs.Ring.{ring, quotes}
 use Rattle.bc_num.specs.Directions.{IsPrimitive2}
-use Rattle.bc_tree.specs.Leaves.{IsBetween, IsPrimitive3, InSlab, InStrip}
-use Rattle.bc_tree.specs.Axis.{IsAxis2, IsAxis3, IsAlong, InShort2, InShort3, corner_at, side_at}
+use Rattle.bc_num.specs.Directions3.{IsPrimitive3}
+use Rattle.bc_tree.specs.Leaves.{IsBetween, InSlab, InStrip}
+use Rattle.bc_tree.specs.Axis.{IsAxis2, IsAxis3, IsAlongSide, InShort2, InShort3, corner_at, side_at}
 use Rattle.bc_tree.specs.Solved.{slab_place, strip_at, place_at}
 use Rattle.bc_num.specs.declared.v2.V2.{V2}
 use Rattle.bc_num.specs.declared.v3.V3.{V3}
@@ -20,7 +21,7 @@ use Rattle.bc_tree.proofs.Decides.{Reached2, Reached3, in_solved, solved_in, nor
 
 -- x over w is in the box along an axis, for the origin o and the normal n
 abbrev Ranges : ℤ → ℤ → ℤ → ℤ → Type 0
-Ranges o n x w = IsAlong (corner_at o n) (side_at n) x w
+Ranges o n x w = IsAlongSide (corner_at o n) (side_at n) x w
 
 abbrev Across : ℤ → ℤ → ℤ → ℤ → ℤ → Type 0
 Across s q o x w = IsBetween (neg_ℤ (pos 8192) *ℤ q) s (pos 8192 *ℤ q) ↔ Ranges o (pos 0) x w

@@ -56,19 +56,19 @@ abbrev pub sides_of2 : V2 → V2
 sides_of2 n = record { x = side_at n.x; y = side_at n.y }
 
 -- x over w is from the corner c to the side a beyond it
-abbrev pub IsAlong : ℤ → ℤ → ℤ → ℤ → Type 0
-IsAlong c a x w = IsBetween (c *ℤ w) x ((c +ℤ a) *ℤ w)
+abbrev pub IsAlongSide : ℤ → ℤ → ℤ → ℤ → Type 0
+IsAlongSide c a x w = IsBetween (c *ℤ w) x ((c +ℤ a) *ℤ w)
 
 -- p is in the closed box from the least corner with these sides
 pub record InBox3 (c a : V3) (p : P3) : Type 0 where
-  pub along_x : IsAlong c.x a.x p.x p.w
-  pub along_y : IsAlong c.y a.y p.y p.w
-  pub along_z : IsAlong c.z a.z p.z p.w
+  pub along_x : IsAlongSide c.x a.x p.x p.w
+  pub along_y : IsAlongSide c.y a.y p.y p.w
+  pub along_z : IsAlongSide c.z a.z p.z p.w
 
 -- p is in the closed rectangle
 pub record InBox2 (c a : V2) (p : P2) : Type 0 where
-  pub along_x : IsAlong c.x a.x p.x p.w
-  pub along_y : IsAlong c.y a.y p.y p.w
+  pub along_x : IsAlongSide c.x a.x p.x p.w
+  pub along_y : IsAlongSide c.y a.y p.y p.w
 
 -- p is in the box of the slab
 abbrev pub InShort3 : Frame3 → P3 → Type 0

@@ -2,7 +2,7 @@
 use Rattle.std.specs.Prelude.{◌≡◌, ◌≤◌, ◌⊎◌, ℕ, List, Some}
 use Rattle.bc_num.specs.Tokens.{tokens_of}
 use Rattle.bc_tree.specs.Shape.{Shape, leaf, union, meet, cut, Shapes, none, child, depth, AllLeaves}
-use Rattle.bc_tree.specs.Leaves.{IsLeaf, IsFlat, IsSolid}
+use Rattle.bc_tree.specs.Leaves.{IsLeaf, IsFlat, IsSpaceLeaf}
 use Rattle.bc_tree.specs.declared.tree.Leaf.{Leaf}
 use Rattle.bc_tree.specs.Axis.{IsAxis}
 use Rattle.bc_tree.specs.Words.{long_words, short_words, IsLeafWords, IsWords, IsShortWords, words}
@@ -29,7 +29,7 @@ pub record IsAllowed (s : Shape) : Type 0 where
   pub ranges : AllLeaves IsLeaf s
   pub nested : depth s ≤ 64
   pub meets : AllMeetsMeet s
-  pub kind : AllLeaves IsFlat s ⊎ AllLeaves IsSolid s
+  pub kind : AllLeaves IsFlat s ⊎ AllLeaves IsSpaceLeaf s
 
 -- the text spells the tree: its tokens are a token sequence of the tree, which is one that the grammar allows. Blanks and
 -- comments are free between tokens

@@ -13,7 +13,7 @@ use Rattle.bc_classify.proofs.Parities.{table_is, proper_of}
 use Rattle.bc_natural.specs.Masks.{curve_mask}
 use Rattle.bc_formula.specs.ContourGeometry.{contours, leaves_of}
 use Rattle.bc_notes.specs.declared.shown.Shown.{Shown}
-use Rattle.bc_formula.specs.Shown.{masks_of, AreParts}
+use Rattle.bc_formula.specs.Shown.{masks_of, AreShownParts}
 use Rattle.bc_formula.specs.ContourDivision.{shown2}
 use Rattle.bc_formula.specs.Divisions.{AreMasks, AreDivided}
 use Rattle.bc_formula.proofs.ContourLeaves.{lines_sized}
@@ -43,7 +43,7 @@ returns c =
     let parts = contour_parts es b t c.in_ok-regions.regions c.in_ok-all.all c.in_ok-split.split c.requires.curves (proper_of es c.law.ensures) c.odd_mask_law.ensures c.straight_cell_law.ensures cells all c.in_ok-split.ensures in
     let ins : map shown2 c.in_ok-split.split.inside ≡ c.in_ok-shown.field-0.items = sym (c.in_ok-shown.ensures ∙ ap (map shown2) c.as_slice-4.ensures) in
     let outs : map shown2 c.in_ok-split.split.outside ≡ c.in_ok-shown-2.field-0.items = sym (c.in_ok-shown-2.ensures ∙ ap (map shown2) c.as_slice-5.ensures) in
-    let P : List Shown → List Shown → Type 0 = λ xs ys. AreMasks (leaves_of c.args.table.now) (masks_of xs) (masks_of ys) × AreDivided contours c.args.profile.now c.args.tile.now (curve_mask c.args.table.now) (masks_of xs) (masks_of ys) × AreParts contours c.args.profile.now c.args.tile.now (curve_mask c.args.table.now) xs ys in
+    let P : List Shown → List Shown → Type 0 = λ xs ys. AreMasks (leaves_of c.args.table.now) (masks_of xs) (masks_of ys) × AreDivided contours c.args.profile.now c.args.tile.now (curve_mask c.args.table.now) (masks_of xs) (masks_of ys) × AreShownParts contours c.args.profile.now c.args.tile.now (curve_mask c.args.table.now) xs ys in
     let first : P (map shown2 c.in_ok-split.split.inside) (map shown2 c.in_ok-split.split.outside) = (all_masks c.in_ok-split.split.inside c.in_ok-split.split.outside (λ xs ys. AreMasks (leaves_of c.args.table.now) xs ys) d.0, all_masks c.in_ok-split.split.inside c.in_ok-split.split.outside (λ xs ys. AreDivided contours c.args.profile.now c.args.tile.now (curve_mask c.args.table.now) xs ys) d.1, parts) in
     let both = subst (λ (ys : List Shown). P c.in_ok-shown.field-0.items ys) outs (subst (λ (xs : List Shown). P xs (map shown2 c.in_ok-split.split.outside)) ins first) in
     record { masks = both.0; divided = both.1; parts = both.2 }

@@ -11,7 +11,7 @@ use Rattle.bc_cells.specs.Cells.{AreCells}
 use Rattle.bc_classify.specs.declared.split3.Marked3.{Marked3}
 use Rattle.bc_formula.specs.MeshGeometry.{meshes, slabs_of}
 use Rattle.bc_notes.specs.declared.shown.Shown.{Shown}
-use Rattle.bc_formula.specs.Shown.{masks_of, AreParts}
+use Rattle.bc_formula.specs.Shown.{masks_of, AreShownParts}
 use Rattle.bc_formula.specs.MeshDivision.{shown3}
 use Rattle.bc_formula.specs.Divisions.{AreMasks, AreDivided}
 use Rattle.bc_parity.specs.Faces.{is_odd3_at}
@@ -39,7 +39,7 @@ returns c =
     let parts = mesh_parts c.args.solid.now c.args.block.now c.args.table.now c.in_ok-all.all c.in_ok-split.split c.requires.planes c.odd_cell_law.ensures cells c.in_ok-split.ensures in
     let ins : map shown3 c.in_ok-split.split.inside ≡ c.in_ok-shown.field-0.items = sym (c.in_ok-shown.ensures ∙ ap (map shown3) c.as_slice-2.ensures) in
     let outs : map shown3 c.in_ok-split.split.outside ≡ c.in_ok-shown-2.field-0.items = sym (c.in_ok-shown-2.ensures ∙ ap (map shown3) c.as_slice-3.ensures) in
-    let P : List Shown → List Shown → Type 0 = λ xs ys. AreMasks (slabs_of c.args.table.now) (masks_of xs) (masks_of ys) × AreDivided meshes c.args.solid.now c.args.block.now (plane_mask c.args.table.now) (masks_of xs) (masks_of ys) × AreParts meshes c.args.solid.now c.args.block.now (plane_mask c.args.table.now) xs ys in
+    let P : List Shown → List Shown → Type 0 = λ xs ys. AreMasks (slabs_of c.args.table.now) (masks_of xs) (masks_of ys) × AreDivided meshes c.args.solid.now c.args.block.now (plane_mask c.args.table.now) (masks_of xs) (masks_of ys) × AreShownParts meshes c.args.solid.now c.args.block.now (plane_mask c.args.table.now) xs ys in
     let first : P (map shown3 c.in_ok-split.split.inside) (map shown3 c.in_ok-split.split.outside) = (all_masks c.in_ok-split.split.inside c.in_ok-split.split.outside (λ xs ys. AreMasks (slabs_of c.args.table.now) xs ys) m, all_masks c.in_ok-split.split.inside c.in_ok-split.split.outside (λ xs ys. AreDivided meshes c.args.solid.now c.args.block.now (plane_mask c.args.table.now) xs ys) d, parts) in
     let both = subst (λ (ys : List Shown). P c.in_ok-shown.field-0.items ys) outs (subst (λ (xs : List Shown). P xs (map shown3 c.in_ok-split.split.outside)) ins first) in
     record { masks = both.0; divided = both.1; parts = both.2 }
