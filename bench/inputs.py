@@ -137,15 +137,59 @@ def stair(steps):
     return mesh([(x, y, z) for y in (0, 10) for x, z in outline], [list(range(count)), list(range(count, 2 * count)), *sides])
 
 
+def together(parts):
+    """The mesh of all these, each given by its places and faces."""
+    places, faces = [], []
+    for some, sides in parts:
+        faces += [[len(places) + i for i in side] for side in sides]
+        places += some
+    return mesh(places, faces)
+
+
+def raised(outline, low, high):
+    """A plane outline between two heights, as places and faces."""
+    count = len(outline)
+    sides = [[k, (k + 1) % count, count + (k + 1) % count, count + k] for k in range(count)]
+    return [(x, y, z) for z in (low, high) for x, y in outline], [list(range(count)), list(range(count, 2 * count)), *sides]
+
+
+def oblong(x0, y0, x1, y1):
+    return [(x0, y0), (x1, y0), (x1, y1), (x0, y1)]
+
+
+def box(x0, y0, z0, x1, y1, z1):
+    return raised(oblong(x0, y0, x1, y1), z0, z1)
+
+
 def shells(count):
     """Boxes in one another; every other one is a hollow."""
+    return together(box(k, k, k, 4 * count - k, 4 * count - k, 4 * count - k) for k in range(count))
+
+
+def plate(outlines):
+    """Outlines, of which some are holes in others, as a plate."""
+    return together(raised(outline, 0, 10) for outline in outlines)
+
+
+def caltrop():
+    """Three bars across one another, with a pyramid at each end."""
     places, faces = [], []
-    for k in range(count):
-        low, high, first = k, 4 * count - k, len(places)
-        places += [(x, y, z) for z in (low, high) for x, y in ((low, low), (high, low), (high, high), (low, high))]
-        sides = ((3, 2, 1, 0), (4, 5, 6, 7), (0, 1, 5, 4), (1, 2, 6, 5), (2, 3, 7, 6), (3, 0, 4, 7))
-        faces += [[first + i for i in side] for side in sides]
+    for along in range(3):
+        turned = lambda place: tuple(place[(i - along) % 3] for i in range(3))
+        for end in (1, -1):
+            first = len(places)
+            places += [turned((end * x, y, z)) for x in (10, 30) for y, z in ((-10, -10), (10, -10), (10, 10), (-10, 10))]
+            places.append(turned((end * 45, 0, 0)))
+            faces += [[first + i for i in (k, (k + 1) % 4, 4 + (k + 1) % 4, 4 + k)] for k in range(4)]
+            faces += [[first + i for i in (4 + k, 4 + (k + 1) % 4, 8)] for k in range(4)]
     return mesh(places, faces)
+
+
+def house():
+    """Walls and a roof of two slopes, with a room, and a doorway into it."""
+    gable = [(0, 0), (20, 0), (20, 15), (10, 21), (0, 15)]
+    walls, sides = raised(gable, 0, 30)
+    return together([([(x, y, z) for x, z, y in walls], sides), box(2, 2, 2, 18, 28, 13), box(8, 0, 2, 12, 2, 9)])
 
 
 def tetrahedra(count, seed, far=FAR):
@@ -279,12 +323,21 @@ def commands(texts):
 # ---- covers
 
 
-# parts with the least terms and literals that are known of formulas over their half-spaces
+LETTER = [[(0, 0), (4, 0), (4, 6), (8, 6), (10, 8), (10, 12), (8, 14), (0, 14)], oblong(3, 8, 7, 12)]
+
+# parts, with the least terms and literals of a formula over their half-spaces where these are known from how a part is made
 COVERS = [
     ("bracket (examples)", lambda: example("bracket.ngc"), (4, 16)),
     ("slot (examples)", lambda: example("slot.ngc"), (4, 18)),
     ("two parts (examples)", lambda: example("parts.off"), (2, 11)),
+    ("three bars with pyramids for ends", lambda: Boundary("off", caltrop()), (3, 36)),
     ("3 boxes in one another", lambda: Boundary("off", shells(3)), (7, 42)),
+    ("a house with a room and a doorway", lambda: Boundary("off", house()), None),
+    ("the letter P, two corners cut", lambda: Boundary("off", plate(LETTER)), None),
+    ("plate of 22 sides, a square hole", lambda: Boundary("off", plate([ring(22), oblong(-300, -300, 300, 300)])), (4, 52)),
+    ("flange (examples)", lambda: example("flange.off"), None),
+    ("tripod (examples)", lambda: example("tripod.off"), None),
+    ("gear (examples)", lambda: example("gear.ngc"), None),
     ("stair of 10 steps", lambda: Boundary("off", stair(10)), (10, 60)),
     ("stair of 18 steps", lambda: Boundary("off", stair(18)), (18, 108)),
 ]
