@@ -158,3 +158,51 @@ fn plainer_point_is_named(rt: HostRuntime) -> Result<(), Fail> {
     assert_eq!(rt; out_flat(&notes.as_slice()[1]), Some(plain));
     Ok(())
 }
+
+fn shown_if(has_point: bool, mask: u64, p: P2) -> Shown {
+    Shown {
+        mask,
+        spot: if has_point { Some(Spot::Flat(p)) } else { None },
+    }
+}
+
+// Bit 2 tells nothing: the one term has the literals 0 and 1. For its own point each inside mask will do, for each of its
+// literals two of the outside masks: 0b010 and 0b110 for literal 0. One of each two has a point, first always the first and
+// then always the second, so once a named mask has none: then it is the other's.
+#[test]
+fn point_of_another_mask_is_named(rt: HostRuntime) -> Result<(), Fail> {
+    let terms = cover(
+        rt.alloc(),
+        &[0b011, 0b111],
+        &[0b010, 0b110, 0b001, 0b101],
+        3,
+    )
+    .map_err(|_| "memory")?;
+    let inner = [P2 { x: 1, y: 1, w: 1 }, P2 { x: 2, y: 1, w: 3 }];
+    let outer = [
+        P2 { x: 3, y: 1, w: 2 },
+        P2 { x: 4, y: 1, w: 1 },
+        P2 { x: 5, y: 1, w: 1 },
+        P2 { x: 6, y: 1, w: 2 },
+    ];
+    for k in 0..2usize {
+        let inside = [
+            shown_if(k == 0, 0b011, inner[0]),
+            shown_if(k == 1, 0b111, inner[1]),
+        ];
+        let outside = [
+            shown_if(k == 0, 0b010, outer[0]),
+            shown_if(k == 1, 0b110, outer[1]),
+            shown_if(k == 0, 0b001, outer[2]),
+            shown_if(k == 1, 0b101, outer[3]),
+        ];
+        let notes = notes_of(rt.alloc(), &inside, &outside, terms.as_slice(), 3).map_err(
+            |_| "memory",
+        )?;
+        assert_eq!(rt; notes.len(), 3);
+        assert_eq!(rt; own_flat(&notes.as_slice()[0]), Some(inner[k]));
+        assert_eq!(rt; out_flat(&notes.as_slice()[1]), Some(outer[k]));
+        assert_eq!(rt; out_flat(&notes.as_slice()[2]), Some(outer[k + 2]));
+    }
+    Ok(())
+}

@@ -1,22 +1,20 @@
-use Rattle.std.proofs.Common.{◌≡◌, ◌+◌, ◌*◌, ◌<◌, ◌≤◌, ◌^◌, ℕ, suc, ◌++◌, ◌∷◌, [], List, length, take, get_or, Some, sym, ap, ◌∙◌, subst, arith, rules}
+use Rattle.std.proofs.Common.{◌≡◌, ◌+◌, ◌*◌, ◌<◌, ◌≤◌, ◌^◌, ℕ, suc, ◌++◌, ◌∷◌, [], List, length, take, Some, refl, sym, ap, ◌∙◌, subst, arith, rules}
 use Rattle.std.specs.Prelude.{slice_get}
 use Rattle.std.specs.List.{AllZip}
 use Rattle.std.proofs.Math.Seq.{take-suc}
 use Rattle.std.proofs.lemmas.List.{take_all, length-take-le, length-map}
-use Rattle.std.proofs.lemmas.Option.{slice_get-get_or, slice_get_within, get_or_from_slice_get}
+use Rattle.std.proofs.lemmas.Option.{slice_get_read, slice_get_within, get_or_from_slice_get}
 use Rattle.bc_cover.specs.declared.term.Term.{Term}
 use Rattle.bc_tree.specs.declared.product.Product.{Product}
 use Rattle.bc_tree.specs.Cuts.{product_of}
 use Rattle.bc_text.specs.declared.note.Note.{Note}
 use Rattle.bc_notes.specs.Products.{literals_of, products_of}
 use Rattle.bc_notes.specs.Noted.{Noted, noted, noted_product, noted_products}
-use Rattle.bc_notes.specs.Chosen.{IsNoteOf, Adds}
+use Rattle.bc_notes.specs.declared.best.Best.{Best}
+use Rattle.bc_notes.specs.Chosen.{IsAlone, IsChosen, IsNoteOf, Adds}
 use Rattle.bc_notes.proofs.Adding.{adds_more, next, next_push, products_push, rise_products, lower_start, from_rise, below_rise}
 use Rattle.bc_notes.proofs.Mapped.{product_at}
 use Rattle.bc_notes.proofs.list.notes_of.Goals as goal
-
-no_term : Term
-no_term = record { pos = 0; neg = 0; own = 0; blocks = [] }
 
 -- the notes of one product more
 module _ (R : Noted → Note → Type 0) (bits : ℕ) (products : List Product) (i place : ℕ) (old new : List Note) (p : Product) (at : slice_get products i ≡ Some p) (is : place ≡ next bits 1 (take i products)) where
@@ -44,15 +42,18 @@ pub loop-i-preserved : goal.loop-i-preserved
 loop-i-preserved c =
     let products = products_of c.args.terms.now in
     let R = IsNoteOf c.args.inside.now c.args.outside.now products in
-    let t = get_or c.args.terms.now c.loop-i.i no_term in
-    let here : slice_get c.args.terms.now c.loop-i.i ≡ Some t = slice_get-get_or c.args.terms.now c.loop-i.i no_term c.loop-i-test.true in
+    let t = c.index-terms-i.result in
+    let here : slice_get c.args.terms.now c.loop-i.i ≡ Some c.index-terms-i.result = slice_get_read c.args.terms.now (length c.args.terms.now) c.loop-i.i t refl c.loop-i-test.true c.index-terms-i.is in
     let at = product_at c.args.terms.now c.loop-i.i t here in
     let old = c.loop-i.invariant in
+    let best = c.index.result.now in
+    let within : c.loop-i.i < length c.in_ok-owns.owns.items = let len : length c.in_ok-owns.owns.items ≡ length c.args.terms.now = c.in_ok-owns.ensures.len in omega (arith, len, c.loop-i-test.true) in
+    let own = subst (λ (b : Best). IsChosen (IsAlone (products_of c.args.terms.now) c.loop-i.i) c.args.inside.now b.spot) (sym c.index.ensures) (c.in_ok-owns.ensures.each c.loop-i.i best within) in
     let soon : c.in_ok-place.place ≤ c.loop-i.place + 131 = c.in_ok-place.ensures.soon in
     record {
-      place = c.in_ok-place.ensures.next _ here ∙ next_place R c.args.n products c.loop-i.i c.loop-i.place c.loop-i.notes.items c.add_term.new.notes.items (product_of t) at old.place;
+      place = c.in_ok-place.ensures.next ∙ next_place R c.args.n products c.loop-i.i c.loop-i.place c.loop-i.notes.items c.add_term.new.notes.items (product_of t) at old.place;
       early = let e : c.loop-i.place ≤ 1 + 131 * c.loop-i.i = old.early in omega (arith, e, soon);
-      added = added_more R c.args.n products c.loop-i.i c.loop-i.place c.loop-i.notes.items c.add_term.new.notes.items (product_of t) at old.place old.added (c.in_ok-place.ensures.added _ here);
+      added = added_more R c.args.n products c.loop-i.i c.loop-i.place c.loop-i.notes.items c.add_term.new.notes.items (product_of t) at old.place old.added (c.in_ok-place.ensures.added c.args.inside.now products c.loop-i.i own);
     }
 
 -- the loop has come to the end
