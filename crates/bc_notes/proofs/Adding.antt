@@ -12,7 +12,7 @@ use Rattle.bc_text.specs.Numbered.{From, PlacesBelow}
 use Rattle.bc_notes.specs.declared.shown.Shown.{Shown}
 use Rattle.bc_notes.specs.Products.{literals_of}
 use Rattle.bc_notes.specs.Noted.{the_literal, Noted, noted_literals, noted_product, noted_products}
-use Rattle.bc_notes.specs.Chosen.{IsNoteOf, Adds}
+use Rattle.bc_notes.specs.Chosen.{IsNoteOf, AddsNotes}
 
 -- ---- lists
 
@@ -23,17 +23,17 @@ zip_append R (x ∷ xs) us [] vs h k = absurd h
 zip_append R (x ∷ xs) us (y ∷ ys) vs h k = (h.0, zip_append R xs us ys vs h.1 k)
 
 module _ (R : Noted → Note → Type 0) where
-  pub adds_none : (old : List Note) → Adds R [] old old
+  pub adds_none : (old : List Note) → AddsNotes R [] old old
   adds_none old = record { more = []; is = sym (append-nil old); each = tt }
 
-  pub adds_more : (es fs : List Noted) (a b c : List Note) → Adds R es a b → Adds R fs b c → Adds R (es ++ fs) a c
+  pub adds_more : (es fs : List Noted) (a b c : List Note) → AddsNotes R es a b → AddsNotes R fs b c → AddsNotes R (es ++ fs) a c
   adds_more es fs a b c h k = record {
     more = h.more ++ k.more;
     is = k.is ∙ ap (λ xs. xs ++ k.more) h.is ∙ append_assoc a h.more k.more;
     each = zip_append R es fs h.more k.more h.each k.each;
   }
 
-  pub adds_one : (es : List Noted) (e : Noted) (x : Note) (a b c : List Note) → Adds R es a b → c ≡ b ++ x ∷ [] → R e x → Adds R (es ++ e ∷ []) a c
+  pub adds_one : (es : List Noted) (e : Noted) (x : Note) (a b c : List Note) → AddsNotes R es a b → c ≡ b ++ x ∷ [] → R e x → AddsNotes R (es ++ e ∷ []) a c
   adds_one es e x a b c h is r = adds_more es (e ∷ []) a b c h (record { more = x ∷ []; is = is; each = (r, tt) })
 
 -- ---- the places of bits

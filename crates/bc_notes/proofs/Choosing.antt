@@ -7,7 +7,7 @@ use Rattle.std.proofs.lemmas.List.Elements.{All-nil, All-cons, All-head, All-tai
 use Rattle.bc_text.specs.declared.note.Spot.{Spot}
 use Rattle.bc_notes.specs.declared.shown.Shown.{Shown}
 use Rattle.bc_notes.specs.Chosen.{IsSpotWhere, IsChosen, seen_of}
-use Rattle.bc_notes.specs.Bests.{IsFound, IsStep}
+use Rattle.bc_notes.specs.Bests.{IsSpotOf, IsStep}
 
 -- ---- masks that have a point
 
@@ -42,7 +42,7 @@ module _ (Will : ℕ → Type 0) (list : List Shown) where
   IsBest front None = All (λ (m : Shown). Will m.mask → m.spot ≡ None) front
 
   -- no mask has been looked at
-  pub best_start : (seen : List Shown) (best : Option Spot) → IsFound Will list best → IsBest (take 0 seen) best
+  pub best_start : (seen : List Shown) (best : Option Spot) → IsSpotOf Will list best → IsBest (take 0 seen) best
   best_start seen (Some s) h = h
   best_start seen None h = λ i d l. absurd (no_less i l)
     where
@@ -73,12 +73,12 @@ module _ (Will : ℕ → Type 0) (list : List Shown) where
   best_seen seen of None i over h = none_seen Will list (subst (All (λ (m : Shown). Will m.mask → m.spot ≡ None)) of (subst (All (λ (m : Shown). Will m.mask → m.spot ≡ None)) (take_all i seen over) h))
 
   -- a point that is found is a choice
-  pub found_chosen : (best : Option Spot) → IsSome best → IsFound Will list best → IsChosen Will list best
+  pub found_chosen : (best : Option Spot) → IsSome best → IsSpotOf Will list best → IsChosen Will list best
   found_chosen (Some s) some h = h
   found_chosen None some h = absurd (let e : false ≡ true = some in cc)
 
   -- the point of a mask of the list that will do
-  pub found_at : (i : ℕ) (m : Shown) → i < length list → m ≡ get_or list i m → (spot : Option Spot) → IsSpotWhere (Will m.mask) m.spot spot → IsFound Will list spot
+  pub found_at : (i : ℕ) (m : Shown) → i < length list → m ≡ get_or list i m → (spot : Option Spot) → IsSpotWhere (Will m.mask) m.spot spot → IsSpotOf Will list spot
   found_at i m within is (Some s) h = (i, m, within, sym is, (h.0, h.1))
   found_at i m within is None h = tt
 

@@ -12,9 +12,9 @@ use Rattle.bc_notes.specs.Products.{HoldsMask, without_literal}
 use Rattle.bc_notes.specs.Chosen.{IsAlone, IsChosen}
 
 -- a point of a mask that will do, or none
-abbrev pub IsFound : (ℕ → Type 0) → List Shown → Option Spot → Type 0
-IsFound Will list (Some s) = Any (λ m. Will m.mask × (m.spot ≡ Some s)) list
-IsFound Will list None = Unit {0}
+abbrev pub IsSpotOf : (ℕ → Type 0) → List Shown → Option Spot → Type 0
+IsSpotOf Will list (Some s) = Any (λ m. Will m.mask × (m.spot ≡ Some s)) list
+IsSpotOf Will list None = Unit {0}
 
 -- the best before and after one mask more, which may do or not, and its point
 pub record IsStep (Will : Type 0) (spot old new : Option Spot) : Type 0 where

@@ -47,7 +47,7 @@ pub record IsNoteOf (inside outside : List Shown) (products : List Product) (e :
   pub says : IsMarkOf inside outside products e.subject note.mark
 
 -- the new list is the old one and one note for each entry
-pub record Adds (R : Noted → Note → Type 0) (entries : List Noted) (old new : List Note) : Type 0 where
+pub record AddsNotes (R : Noted → Note → Type 0) (entries : List Noted) (old new : List Note) : Type 0 where
   pub more : List Note
   pub is : new ≡ old ++ more
   pub each : AllZip R entries more

@@ -6,7 +6,7 @@ ghost use Rattle.bc_tree.specs.Cuts.{product_of};
 ghost use Rattle.bc_text.specs.Numbered.{Ascend, EndEarly};
 ghost use Rattle.bc_notes.specs.Products.{products_of, literals_of};
 ghost use Rattle.bc_notes.specs.Noted.{noted_literals, noted_product, noted};
-ghost use Rattle.bc_notes.specs.Chosen.{own_mark, out_mark, seen_of, IsAlone, IsChosen, IsNoteOf, Adds};
+ghost use Rattle.bc_notes.specs.Chosen.{own_mark, out_mark, seen_of, IsAlone, IsChosen, IsNoteOf, AddsNotes};
 ghost use Rattle.bc_notes.specs.Bests.{literal_of, word_of, AreOuts};
 
 use crate::Shown;
@@ -48,7 +48,7 @@ fn add_literals(
     requires few { n ≤ 64 }
     requires len { length bests.now ≡ n }
     requires early { first < 2 ^ 99 }
-    ensures added { (inside : _) (outside : _) (products : _) (p : _) (sign : _) → word ≡ word_of sign p → AreOuts sign p outside bests.now → OnOk result (Adds (IsNoteOf inside outside products) (noted_literals first p (map (literal_of sign) (places_below n word))) notes.old.items notes.new.items) }
+    ensures added { (inside : _) (outside : _) (products : _) (p : _) (sign : _) → word ≡ word_of sign p → AreOuts sign p outside bests.now → OnOk result (AddsNotes (IsNoteOf inside outside products) (noted_literals first p (map (literal_of sign) (places_below n word))) notes.old.items notes.new.items) }
     ensures count { IfOk result (λ k. k ≡ length (places_below n word)) }
 {
     let mut k = 0;
@@ -78,7 +78,7 @@ fn add_term(
     requires few { n ≤ 64 }
     requires early { place < 2 ^ 98 }
     requires seen { outside.now.seen.now ≡ seen_of outside.now.all.now }
-    ensures added { (inside : _) (products : _) (i : _) → IsChosen (IsAlone products i) inside own → OnOk result (Adds (IsNoteOf inside outside.now.all.now products) (noted_product n place i (product_of t.now)) notes.old.items notes.new.items) }
+    ensures added { (inside : _) (products : _) (i : _) → IsChosen (IsAlone products i) inside own → OnOk result (AddsNotes (IsNoteOf inside outside.now.all.now products) (noted_product n place i (product_of t.now)) notes.old.items notes.new.items) }
     ensures next { IfOk result (λ m. m ≡ place + 3 + length (literals_of n (product_of t.now))) }
     ensures soon { IfOk result (λ m. m ≤ place + 131) }
 {

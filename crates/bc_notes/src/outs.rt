@@ -5,7 +5,7 @@ ghost use Rattle.bc_cover.specs.Masks.{without_bit};
 ghost use Rattle.bc_tree.specs.Cuts.{product_of};
 ghost use Rattle.bc_notes.specs.Products.{HoldsMask};
 ghost use Rattle.bc_notes.specs.Chosen.{IsSpotWhere, seen_of};
-ghost use Rattle.bc_notes.specs.Bests.{IsFound, AllAt, AreSteps, AreOuts, LetsIn};
+ghost use Rattle.bc_notes.specs.Bests.{IsSpotOf, AllAt, AreSteps, AreOuts, LetsIn};
 ghost use Rattle.bc_notes.specs.declared.sign.Sign.TheVariants.{Positive, Negative};
 
 use crate::Shown;
@@ -73,7 +73,7 @@ fn out_at(m: &Shown, p: Product) -> Option<Spot>
 // The point of the mask that the cover names for a literal, where the term has the literal and holds the mask without it.
 fn named_out(outside: &[Shown], t: &Term, sign: Sign, i: u32) -> Option<Spot>
     requires { i < 64 }
-    ensures { IsFound (LetsIn (product_of t.now) sign i) outside.now result }
+    ensures { IsSpotOf (LetsIn (product_of t.now) sign i) outside.now result }
 {
     let p = Product::of(t);
     if !has_bit(sign.word(p), i) {
@@ -97,7 +97,7 @@ fn named_outs(
 ) -> Result<Vec<Best>, Memory>
     requires few { n ≤ 64 }
     ensures len { IfOk result (λ v. length v.items ≡ n) }
-    ensures each { IfOk result (λ v. AllAt (λ i spot. IsFound (LetsIn (product_of t.now) sign i) outside.now spot) v.items) }
+    ensures each { IfOk result (λ v. AllAt (λ i spot. IsSpotOf (LetsIn (product_of t.now) sign i) outside.now spot) v.items) }
 {
     let mut bests = Vec::with_capacity(alloc, n as usize)?;
     for i in 0..n {
@@ -142,8 +142,8 @@ fn improve(bests: &mut Vec<Best>, missing: u64, other: u64, spot: &Option<Spot>)
 // Looks at the points of all masks for all literals of the product.
 fn improve_all(positive: &mut Vec<Best>, negative: &mut Vec<Best>, p: Product, outside: &Masks<'_>)
     requires seen { outside.now.seen.now ≡ seen_of outside.now.all.now }
-    requires positive { AllAt (λ i spot. IsFound (LetsIn p Positive i) outside.now.all.now spot) positive.old.items }
-    requires negative { AllAt (λ i spot. IsFound (LetsIn p Negative i) outside.now.all.now spot) negative.old.items }
+    requires positive { AllAt (λ i spot. IsSpotOf (LetsIn p Positive i) outside.now.all.now spot) positive.old.items }
+    requires negative { AllAt (λ i spot. IsSpotOf (LetsIn p Negative i) outside.now.all.now spot) negative.old.items }
     ensures positive_len { length positive.new.items ≡ length positive.old.items }
     ensures negative_len { length negative.new.items ≡ length negative.old.items }
     ensures positive { AreOuts Positive p outside.now.all.now positive.new.items }

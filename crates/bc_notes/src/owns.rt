@@ -3,7 +3,7 @@ ghost use Rattle.std.specs.Prelude.{◌≡◌, ◌<◌, ℕ, List, Some, IfOk, I
 ghost use Rattle.bc_tree.specs.declared.product.Product.{Product};
 ghost use Rattle.bc_notes.specs.Products.{products_of};
 ghost use Rattle.bc_notes.specs.Chosen.{IsAlone};
-ghost use Rattle.bc_notes.specs.Bests.{IsFound, AllAt, AreSteps, AreOwns, IsOwner, IsOwnerShown, AreOwners};
+ghost use Rattle.bc_notes.specs.Bests.{IsSpotOf, AllAt, AreSteps, AreOwns, IsOwner, IsOwnerShown, AreOwners};
 
 use crate::Shown;
 use crate::best::Best;
@@ -72,7 +72,7 @@ fn owners_of(
 // The point of the mask at the place that the cover names, where the term at place `i` owns the mask.
 fn named_own(inside: &[Shown], owners: &[Option<usize>], named: usize, i: usize) -> Option<Spot>
     requires { length owners.now ≡ length inside.now }
-    ensures { (products : List Product) → AreOwners products inside.now owners.now → IsFound (IsAlone products i) inside.now result }
+    ensures { (products : List Product) → AreOwners products inside.now owners.now → IsSpotOf (IsAlone products i) inside.now result }
 {
     if named >= inside.len() {
         return None;
@@ -92,7 +92,7 @@ fn named_owns(
 ) -> Result<Vec<Best>, Memory>
     requires { length owners.now ≡ length inside.now }
     ensures len { IfOk result (λ v. length v.items ≡ length terms.now) }
-    ensures each { (products : List Product) → AreOwners products inside.now owners.now → IfOk result (λ v. AllAt (λ i spot. IsFound (IsAlone products i) inside.now spot) v.items) }
+    ensures each { (products : List Product) → AreOwners products inside.now owners.now → IfOk result (λ v. AllAt (λ i spot. IsSpotOf (IsAlone products i) inside.now spot) v.items) }
 {
     let mut bests = Vec::new(alloc);
     for i in 0..terms.len() {

@@ -4,7 +4,7 @@ use Rattle.std.proofs.lemmas.List.{length-append}
 use Rattle.bc_cover.specs.Masks.{places_below}
 use Rattle.bc_text.specs.declared.note.Note.{Note}
 use Rattle.bc_notes.specs.Noted.{the_literal, Noted, noted_literals}
-use Rattle.bc_notes.specs.Chosen.{IsNoteOf, Adds}
+use Rattle.bc_notes.specs.Chosen.{IsNoteOf, AddsNotes}
 use Rattle.bc_notes.specs.Bests.{literal_of}
 use Rattle.bc_notes.proofs.Adding.{adds_one, bits_yes, bits_no, bits_few, literals_push}
 use Rattle.bc_notes.proofs.list.add_literals.Goals as goal
@@ -35,7 +35,7 @@ loop-i-preserved c =
                 let e : Noted = record { place = c.args.first + length (places_below i word); subject = the_literal p (make i) } in
                 let best = get_or c.args.bests.now i w.index-bests-i.result in
                 let chosen = outs i w.index-bests-i.result within (subst (λ v. bit_at v c.loop-i.i ≡ 1) is one) in
-                subst (λ es. Adds R es c.args.notes.now.items w.push.new.self.items) (sym (literals_push c.args.first p make word i one))
+                subst (λ es. AddsNotes R es c.args.notes.now.items w.push.new.self.items) (sym (literals_push c.args.first p make word i one))
                 (adds_one R (noted_literals c.args.first p (map make (places_below i word))) e x c.args.notes.now.items c.loop-i.notes.items w.push.new.self.items
                 (c.loop-i.invariant.added inside outside products p sign is outs) w.in_ok-push.ensures.items
                 (record { at = ap (λ k. c.args.first + k) old; says = (best.spot, chosen, w.mark_out.ensures) }));
@@ -45,7 +45,7 @@ loop-i-preserved c =
           rw (w.k-is, w.notes-is) record {
             count = old ∙ ap length (sym same);
             added = λ inside outside products p sign is outs.
-                subst (λ ps. Adds (IsNoteOf inside outside products) (noted_literals c.args.first p (map (literal_of sign) ps)) c.args.notes.now.items c.loop-i.notes.items) (sym same) (c.loop-i.invariant.added inside outside products p sign is outs);
+                subst (λ ps. AddsNotes (IsNoteOf inside outside products) (noted_literals c.args.first p (map (literal_of sign) ps)) c.args.notes.now.items c.loop-i.notes.items) (sym same) (c.loop-i.invariant.added inside outside products p sign is outs);
           }
     ]
   where

@@ -11,7 +11,7 @@ use Rattle.bc_text.specs.declared.note.Note.{Note}
 use Rattle.bc_notes.specs.Products.{literals_of, products_of}
 use Rattle.bc_notes.specs.Noted.{Noted, noted, noted_product, noted_products}
 use Rattle.bc_notes.specs.declared.best.Best.{Best}
-use Rattle.bc_notes.specs.Chosen.{IsAlone, IsChosen, IsNoteOf, Adds}
+use Rattle.bc_notes.specs.Chosen.{IsAlone, IsChosen, IsNoteOf, AddsNotes}
 use Rattle.bc_notes.proofs.Adding.{adds_more, next, next_push, products_push, rise_products, lower_start, from_rise, below_rise}
 use Rattle.bc_notes.proofs.Mapped.{product_at}
 use Rattle.bc_notes.proofs.list.notes_of.Goals as goal
@@ -29,14 +29,14 @@ module _ (R : Noted → Note → Type 0) (bits : ℕ) (products : List Product) 
   next_place : (place + 3 + length (literals_of bits p)) ≡ next bits 1 (take (i + 1) products)
   next_place = ap (λ n. n + 3 + length (literals_of bits p)) is ∙ sym (ap (next bits 1) taken ∙ next_push bits 1 (take i products) p)
 
-  added_more : Adds R (noted_products bits 1 0 (take i products)) [] old → Adds R (noted_product bits place i p) old new → Adds R (noted_products bits 1 0 (take (i + 1) products)) [] new
+  added_more : AddsNotes R (noted_products bits 1 0 (take i products)) [] old → AddsNotes R (noted_product bits place i p) old new → AddsNotes R (noted_products bits 1 0 (take (i + 1) products)) [] new
   added_more h k =
       let count : 0 + length (take i products) ≡ i = let l = length-take-le i products (omega (arith, within)) in omega (arith, l) in
       let whole : noted_products bits 1 0 (take (i + 1) products) ≡ noted_products bits 1 0 (take i products) ++ noted_product bits place i p =
       ap (noted_products bits 1 0) taken ∙ products_push bits 1 0 (take i products) p
       ∙ ap (λ m. noted_products bits 1 0 (take i products) ++ noted_product bits m (0 + length (take i products)) p) (sym is)
       ∙ ap (λ j. noted_products bits 1 0 (take i products) ++ noted_product bits place j p) count in
-      subst (λ es. Adds R es [] new) (sym whole) (adds_more R (noted_products bits 1 0 (take i products)) (noted_product bits place i p) [] old new h k)
+      subst (λ es. AddsNotes R es [] new) (sym whole) (adds_more R (noted_products bits 1 0 (take i products)) (noted_product bits place i p) [] old new h k)
 
 pub loop-i-preserved : goal.loop-i-preserved
 loop-i-preserved c =
@@ -60,7 +60,7 @@ loop-i-preserved c =
 whole_list : (terms : List Term) (i : ℕ) → length terms ≤ i → take i (products_of terms) ≡ products_of terms
 whole_list terms i over = let l = length-map terms product_of in take_all i (products_of terms) (omega (arith, l, over))
 
-each_of : (R : Noted → Note → Type 0) (bits : ℕ) (terms : List Term) (i : ℕ) (notes : List Note) → length terms ≤ i → Adds R (noted_products bits 1 0 (take i (products_of terms))) [] notes → AllZip R (noted bits (products_of terms)) notes
+each_of : (R : Noted → Note → Type 0) (bits : ℕ) (terms : List Term) (i : ℕ) (notes : List Note) → length terms ≤ i → AddsNotes R (noted_products bits 1 0 (take i (products_of terms))) [] notes → AllZip R (noted bits (products_of terms)) notes
 each_of R bits terms i notes over h = subst (λ ps. AllZip R (noted_products bits 1 0 ps) notes) (whole_list terms i over) (subst (AllZip R (noted_products bits 1 0 (take i (products_of terms)))) (sym h.is) h.each)
 
 pub returns-clause-each : goal.returns-clause-each

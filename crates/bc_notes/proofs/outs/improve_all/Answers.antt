@@ -5,7 +5,7 @@ use Rattle.std.specs.Int.Bits.{bit_and, bit_xor}
 use Rattle.bc_cover.specs.Masks.{without_bit}
 use Rattle.bc_notes.specs.declared.sign.Sign.TheVariants.{Positive, Negative}
 use Rattle.bc_notes.specs.Chosen.{IsChosen}
-use Rattle.bc_notes.specs.Bests.{IsFound, LetsIn, word_of}
+use Rattle.bc_notes.specs.Bests.{IsSpotOf, LetsIn, word_of}
 use Rattle.bc_notes.proofs.Choosing.{IsBest, seen_contained, best_start, best_step, best_seen}
 use Rattle.bc_notes.proofs.Stepping.{step_as, all_as, all_step}
 use Rattle.bc_notes.proofs.Letting.{positive_parts, positive_whole, negative_parts, negative_whole}
@@ -19,8 +19,8 @@ loop-m-init c =
     record {
       positive_len = refl;
       negative_len = refl;
-      positive = all_as (λ i spot. IsFound (LetsIn p Positive i) all spot) (λ i spot. IsBest (LetsIn p Positive i) all (take 0 seen) spot) c.args.positive.now.items (λ i spot h. best_start (LetsIn p Positive i) all seen spot h) c.requires.positive;
-      negative = all_as (λ i spot. IsFound (LetsIn p Negative i) all spot) (λ i spot. IsBest (LetsIn p Negative i) all (take 0 seen) spot) c.args.negative.now.items (λ i spot h. best_start (LetsIn p Negative i) all seen spot h) c.requires.negative;
+      positive = all_as (λ i spot. IsSpotOf (LetsIn p Positive i) all spot) (λ i spot. IsBest (LetsIn p Positive i) all (take 0 seen) spot) c.args.positive.now.items (λ i spot h. best_start (LetsIn p Positive i) all seen spot h) c.requires.positive;
+      negative = all_as (λ i spot. IsSpotOf (LetsIn p Negative i) all spot) (λ i spot. IsBest (LetsIn p Negative i) all (take 0 seen) spot) c.args.negative.now.items (λ i spot h. best_start (LetsIn p Negative i) all seen spot h) c.requires.negative;
     }
 
 pub loop-m-preserved : goal.loop-m-preserved

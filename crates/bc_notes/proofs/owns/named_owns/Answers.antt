@@ -2,7 +2,7 @@ use Rattle.std.proofs.Common.{◌≡◌, ◌+◌, ◌∷◌, [], ℕ, Option, le
 use Rattle.std.proofs.lemmas.List.{length-append}
 use Rattle.bc_text.specs.declared.note.Spot.{Spot}
 use Rattle.bc_notes.specs.Chosen.{IsAlone}
-use Rattle.bc_notes.specs.Bests.{IsFound, AllAt}
+use Rattle.bc_notes.specs.Bests.{IsSpotOf, AllAt}
 use Rattle.bc_notes.proofs.Stepping.{all_push}
 use Rattle.bc_notes.proofs.owns.named_owns.Goals as goal
 
@@ -15,8 +15,8 @@ loop-i-preserved c =
     record {
       len = omega (arith, len, more);
       each = λ products owns.
-          let P : ℕ → Option Spot → Type 0 = λ i spot. IsFound (IsAlone products i) inside spot in
-          let named : IsFound (IsAlone products c.loop-i.i) inside c.named_own-named.result = c.named_own-named.ensures products owns in
+          let P : ℕ → Option Spot → Type 0 = λ i spot. IsSpotOf (IsAlone products i) inside spot in
+          let named : IsSpotOf (IsAlone products c.loop-i.i) inside c.named_own-named.result = c.named_own-named.ensures products owns in
           let new = subst (λ k. P k c.new.result.spot) (sym len) (subst (P c.loop-i.i) (sym c.new.ensures) named) in
           subst (AllAt P) (sym c.in_ok-push.ensures.items) (all_push P bests c.new.result (c.loop-i.invariant.each products owns) new);
     }

@@ -4,7 +4,7 @@ use Rattle.bc_tree.specs.declared.product.Product.{Product}
 use Rattle.bc_notes.specs.declared.shown.Shown.{Shown}
 use Rattle.bc_notes.specs.Products.{products_of}
 use Rattle.bc_notes.specs.Chosen.{IsAlone, IsChosen}
-use Rattle.bc_notes.specs.Bests.{IsFound, AreSteps, IsOwnerShown, AreOwners}
+use Rattle.bc_notes.specs.Bests.{IsSpotOf, AreSteps, IsOwnerShown, AreOwners}
 use Rattle.bc_notes.proofs.Choosing.{IsBest, best_start, best_step, best_all}
 use Rattle.bc_notes.proofs.Stepping.{all_as, all_step}
 use Rattle.bc_notes.proofs.Holders.{owner_at, owner_within, products_len, step_owned}
@@ -19,7 +19,7 @@ loop-k-init c =
     let lent : AreOwners (products_of c.args.terms.now) c.args.inside.now c.deref-2.result.now = subst (AreOwners products inside) (sym c.deref-2.ensures.value) owners in
     record {
       len = c.in_ok-bests.ensures.len;
-      each = all_as (λ i spot. IsFound (IsAlone products i) inside spot) (λ i spot. IsBest (IsAlone products i) inside (take 0 inside) spot) c.in_ok-bests.bests.items
+      each = all_as (λ i spot. IsSpotOf (IsAlone products i) inside spot) (λ i spot. IsBest (IsAlone products i) inside (take 0 inside) spot) c.in_ok-bests.bests.items
           (λ i spot h. best_start (IsAlone products i) inside inside spot h)
           (c.in_ok-bests.ensures.each products lent);
     }
