@@ -334,7 +334,7 @@ COVERS = [
     ("3 boxes in one another", lambda: Boundary("off", shells(3)), (7, 42)),
     ("a house with a room and a doorway", lambda: Boundary("off", house()), None),
     ("the letter P, two corners cut", lambda: Boundary("off", plate(LETTER)), None),
-    ("plate of 22 sides, a square hole", lambda: Boundary("off", plate([ring(22), oblong(-300, -300, 300, 300)])), (4, 52)),
+    ("plate of 22 sides, a square hole", lambda: Boundary("off", plate([ring(22), oblong(-300, -300, 300, 300)])), None),
     ("flange (examples)", lambda: example("flange.off"), None),
     ("tripod (examples)", lambda: example("tripod.off"), None),
     ("gear (examples)", lambda: example("gear.ngc"), None),
