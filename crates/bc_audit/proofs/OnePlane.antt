@@ -1,13 +1,12 @@
 -- A slab has one canonical plane, so a mesh and a tree have one list of planes.
-use Rattle.std.proofs.Common.{◌≡◌, ◌⊎◌, ℕ, Bool, true, ◌&&◌, List, [], ◌∷◌, ◌++◌, map, refl, sym, ap, ◌∙◌, inl, inr, arith}
+use Rattle.std.proofs.Common.{◌≡◌, true, ◌&&◌, List, [], ◌∷◌, ◌++◌, map, refl, sym, ap, ◌∙◌, inl, inr, arith}
 use Rattle.std.specs.List.{All, AllZip}
 use Rattle.std.specs.Ordering.{int_eq}
 use Rattle.std.proofs.lemmas.Int.{ints}
 use Rattle.std.proofs.lemmas.Bool.{and_parts}
 use Rattle.std.proofs.lemmas.Bool.Decides.{Decides-int_eq}
 use Rattle.std.proofs.lemmas.List.Elements.{All-head, All-tail}
-use lib.IntN.{ℤ, pos, neg_ℤ}
-use lib.Signed.{◌<ℤ◌}
+use lib.IntN.{ℤ, neg_ℤ}
 use Rattle.bc_num.specs.declared.v3.V3.{V3}
 use Rattle.bc_num.specs.Directions3.{IsLeading3}
 use Rattle.bc_space.specs.declared.plane3.Plane3.{Plane3}
@@ -16,9 +15,8 @@ use Rattle.bc_solid.specs.Facets.{Facet}
 use Rattle.bc_natural.specs.Distinct.{distinct}
 use Rattle.bc_natural.specs.Planes.{is_same_plane}
 use Rattle.bc_tree.specs.declared.frame.Frame3.{Frame3}
-use Rattle.bc_tree.specs.Shape.{Shape}
 use Rattle.bc_tree.specs.Leaves.{IsFrame3}
-use Rattle.bc_audit.specs.SlabPlanes.{IsSlabPlane, slabs, ArePlanesWith, OnePlaneList}
+use Rattle.bc_audit.specs.SlabPlanes.{IsSlabPlane, slabs, OnePlaneList}
 use Rattle.bc_audit.specs.Told.{offset, is_plane, is_facing, is_turned}
 use Rattle.bc_audit.proofs.Sides.{one_of}
 

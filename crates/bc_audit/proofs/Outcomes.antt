@@ -1,19 +1,14 @@
 -- An audit has one outcome: a mesh has one box, and the faults and the verdicts exclude each other.
-use Rattle.std.proofs.Common.{◌≡◌, ℕ, ◌≤◌, ◌<◌, List, [], ◌∷◌, length, sym, ap, ◌∙◌, subst, arith}
-use Rattle.std.specs.List.{All}
+use Rattle.std.proofs.Common.{◌≡◌, List, [], ◌∷◌, length, sym, ap, ◌∙◌, subst, arith}
 use Rattle.std.proofs.lemmas.Int.{ints}
 use lib.IntN.{ℤ, pos, ◌+ℤ◌, ◌-ℤ◌}
-use lib.Signed.{◌≤ℤ◌}
 use Rattle.bc_num.specs.declared.box3.Box3.{Box3}
 use Rattle.bc_num.proofs.Same.{box3_same}
-use Rattle.bc_space.specs.declared.plane3.Plane3.{Plane3}
 use Rattle.bc_solid.specs.Boxes.{IsLeast, IsGreatest}
 use Rattle.bc_solid.specs.Facets.{Facet}
 use Rattle.bc_solid.specs.Boxes3.{along_x, along_y, along_z, IsCoordinate, IsBoxOf3}
-use Rattle.bc_tree.specs.declared.tree.Leaf.{Leaf}
 use Rattle.bc_tree.specs.Shape.{Shape, AllLeaves}
-use Rattle.bc_tree.specs.Leaves.{IsLeaf}
-use Rattle.bc_audit.specs.Audits.{IsOfBox, IsAudit, HasOtherBox, HasManyPlanes, OneOutcome, IsOneBox}
+use Rattle.bc_audit.specs.Audits.{IsOfBox, HasOtherBox, OneOutcome, IsOneBox}
 use Rattle.bc_audit.proofs.Verdicts.{frames}
 use Rattle.bc_audit.proofs.OnePlane.{one_list}
 

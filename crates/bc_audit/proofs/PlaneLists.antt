@@ -1,14 +1,14 @@
 -- Lists of planes, each once: how they grow, and what they have.
-use Rattle.std.proofs.Common.{◌≡◌, ℕ, zero, suc, ◌+◌, ◌<◌, Bool, true, List, [], ◌∷◌, ◌++◌, length, take, drop, map, Some, ◌⊎◌, inl, inr, refl, sym, ap, ◌∙◌, subst, arith, append_assoc}
+use Rattle.std.proofs.Common.{◌≡◌, ℕ, zero, suc, ◌+◌, ◌<◌, Bool, true, List, [], ◌∷◌, ◌++◌, length, take, map, Some, refl, sym, ap, ◌∙◌, subst, arith, append_assoc}
 use Rattle.std.specs.Prelude.{slice_get, filter, Result, Ok, Err, OnOk}
-use Rattle.std.specs.List.{All, Any, AllZip, Contains}
-use Rattle.std.proofs.lemmas.List.Elements.{All-nil, All-cons, All-head, All-tail, All-push, All-contains}
+use Rattle.std.specs.List.{All, AllZip, Contains}
+use Rattle.std.proofs.lemmas.List.Elements.{All-nil, All-cons, All-head, All-tail, All-contains}
 use Rattle.std.proofs.lemmas.List.{append-nil, map-append}
 use Rattle.std.proofs.lemmas.Option.{slice_get-get_or}
 use Rattle.std.specs.Cmp.{IsEquivalence}
 use Rattle.bc_space.specs.declared.plane3.Plane3.{Plane3}
 use Rattle.bc_space.specs.Planes.{IsSizedPlane}
-use Rattle.bc_solid.specs.Facets.{Facet, IsFacet, IsSolid}
+use Rattle.bc_solid.specs.Facets.{Facet, IsSolid}
 use Rattle.bc_natural.specs.Distinct.{distinct}
 use Rattle.bc_natural.specs.Noted.{with_new}
 use Rattle.bc_natural.specs.Planes.{is_same_plane}

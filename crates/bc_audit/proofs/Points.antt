@@ -1,14 +1,13 @@
 -- Points strictly inside a box, by its walls; points with the same place; and where slabs and blocks hold inside the box.
-use Rattle.std.proofs.Common.{◌≡◌, ◌≢◌, ◌↔◌, ℕ, zero, suc, Bool, true, ◌&&◌, List, [], ◌∷◌, Some, refl, sym, ap, ◌∙◌, subst, arith}
+use Rattle.std.proofs.Common.{◌≡◌, ◌↔◌, ℕ, zero, suc, Bool, true, ◌&&◌, [], ◌∷◌, Some, refl, ap, subst, arith}
 use Rattle.std.specs.Prelude.{slice_get}
-use Rattle.std.specs.List.{All, Any, Contains}
-use Rattle.std.specs.Int.{bit_at}
+use Rattle.std.specs.List.{All}
 use Rattle.std.specs.Ordering.{int_eq}
 use Rattle.std.proofs.lemmas.Int.{ints}
 use Rattle.std.proofs.lemmas.Option.{slice_get_within, get_or_from_slice_get}
 use Rattle.std.proofs.lemmas.Bool.{and_parts}
 use Rattle.std.proofs.lemmas.Bool.Decides.{Decides-int_eq}
-use Rattle.std.proofs.lemmas.List.Elements.{All-nil, All-cons, All-head, All-tail, All-contains}
+use Rattle.std.proofs.lemmas.List.Elements.{All-nil, All-cons}
 use lib.IntN.{ℤ, pos, negsuc, ◌+ℤ◌, ◌-ℤ◌, ◌*ℤ◌, neg_ℤ}
 use lib.Signed.{◌≤ℤ◌, ◌<ℤ◌}
 use Rattle.bc_algebra.specs.Within.{IsWithin}
@@ -26,7 +25,6 @@ use Rattle.bc_space.specs.Planes.{plane_value, plane_side}
 use Rattle.bc_space.specs.Solid.{left3, right3, front3, rear3, low3, high3, walls3}
 use Rattle.bc_solid.specs.Boxes3.{IsInside3}
 use Rattle.bc_natural.specs.Planes.{IsNearBox3}
-use Rattle.bc_tree.specs.declared.frame.Frame3.{Frame3}
 use Rattle.bc_tree.specs.Leaves.{IsBetween, InBlock}
 use Rattle.bc_tree.specs.Near.{IsNear3}
 use Rattle.bc_audit.specs.Blocks.{is_same_box}

@@ -1,5 +1,5 @@
 -- The plane of a slab, and on which side of it the slab is.
-use Rattle.std.proofs.Common.{◌≡◌, ◌≢◌, ◌↔◌, ◌⊎◌, ℕ, zero, suc, ◌+◌, Bool, true, false, not, ◌&&◌, List, [], ◌∷◌, if◌then◌else◌, nat_eq, Option, None, Some, is_some, refl, sym, ap, ◌∙◌, subst, inl, inr, arith}
+use Rattle.std.proofs.Common.{◌≡◌, ◌≢◌, ◌↔◌, ◌⊎◌, ℕ, zero, suc, ◌+◌, Bool, true, false, not, ◌&&◌, List, [], ◌∷◌, if◌then◌else◌, Option, None, Some, is_some, refl, sym, ap, ◌∙◌, subst, inl, inr, arith}
 use Rattle.std.specs.Prelude.{slice_get}
 use Rattle.std.specs.List.{All, Any}
 use Rattle.std.specs.Int.{bit_at}
@@ -10,18 +10,16 @@ use Rattle.std.proofs.lemmas.Bool.{and_parts, eqb-true, eq-eqb}
 use Rattle.std.proofs.lemmas.Bool.Decides.{Decides-int_eq}
 use Rattle.std.proofs.lemmas.List.Elements.{All-head, All-tail}
 use lib.IntN.{ℤ, pos, negsuc, ◌+ℤ◌, ◌-ℤ◌, ◌*ℤ◌, neg_ℤ, nat_abs, *ℤ_comm}
-use lib.Signed.{◌≤ℤ◌, ◌<ℤ◌}
+use lib.Signed.{◌≤ℤ◌}
 use Rattle.bc_algebra.proofs.Ring.{ring, quotes}
 use Rattle.bc_num.specs.declared.v3.V3.{V3}
 use Rattle.bc_num.specs.declared.p3.P3.{P3}
-use Rattle.bc_num.specs.Directions3.{IsPrimitive3, IsPrimitiveOf3, IsZero3}
+use Rattle.bc_num.specs.Directions3.{IsPrimitive3, IsZero3}
 use Rattle.bc_num.specs.Divides.{Divides}
-use Rattle.bc_space.specs.declared.side.Side.{Side}
-use Rattle.bc_space.specs.declared.side.Side.TheVariants.{Below, On, Above}
+use Rattle.bc_space.specs.declared.side.Side.TheVariants.{On, Above}
 use Rattle.bc_space.specs.declared.plane3.Plane3.{Plane3}
 use Rattle.bc_space.specs.Sides.{side_of_value}
 use Rattle.bc_space.specs.Planes.{plane_value, plane_side}
-use Rattle.bc_space.specs.PlanesThrough.{along_normal3}
 use Rattle.bc_tree.specs.declared.frame.Frame3.{Frame3}
 use Rattle.bc_tree.specs.Near.{rise3}
 use Rattle.bc_audit.specs.SlabPlanes.{IsSlabPlane}

@@ -1,5 +1,5 @@
 -- What the masks of the cells tell of a tree and a mesh, and of each point.
-use Rattle.std.proofs.Common.{◌≡◌, ◌≢◌, ◌↔◌, ◌⊎◌, ℕ, zero, suc, ◌+◌, ◌*◌, ◌<◌, Bool, true, false, not, List, [], ◌∷◌, ◌++◌, length, map, Some, refl, sym, ap, ◌∙◌, subst, inl, inr, arith, get_or}
+use Rattle.std.proofs.Common.{◌≡◌, ◌≢◌, ◌↔◌, ℕ, zero, suc, ◌+◌, ◌<◌, Bool, true, false, not, List, length, map, Some, refl, sym, ap, ◌∙◌, subst, inl, inr, arith, get_or}
 use Rattle.std.specs.Prelude.{slice_get}
 use Rattle.std.specs.List.{All, Any, Contains}
 use Rattle.std.specs.Int.{bit_at}
@@ -8,22 +8,19 @@ use Rattle.std.proofs.lemmas.List.{length-map, get_or-map}
 use Rattle.std.proofs.lemmas.List.Elements.{All-contains}
 use Rattle.std.proofs.lemmas.Option.{slice_get-get_or, slice_get_within, get_or_from_slice_get}
 use lib.IntN.{ℤ, pos, negsuc}
-use lib.Signed.{◌≤ℤ◌}
-use Rattle.bc_num.specs.declared.v3.V3.{V3}
 use Rattle.bc_num.specs.declared.p3.P3.{P3}
 use Rattle.bc_num.specs.declared.box3.Box3.{Box3}
 use Rattle.bc_num.specs.Points.{IsSamePoint3, IsReduced3, IsMultiple3}
-use Rattle.bc_num.specs.Sizes.{AreCoords3, IsLargePoint3}
+use Rattle.bc_num.specs.Sizes.{IsLargePoint3}
 use Rattle.bc_num.proofs.Combining3.{IsMultiple3_of-reduced}
-use Rattle.bc_space.specs.declared.side.Side.{Side}
-use Rattle.bc_space.specs.declared.side.Side.TheVariants.{Below, On, Above}
+use Rattle.bc_space.specs.declared.side.Side.TheVariants.{On, Above}
 use Rattle.bc_space.specs.declared.plane3.Plane3.{Plane3}
 use Rattle.bc_space.specs.Sides.{side_of_value}
 use Rattle.bc_space.specs.Planes.{plane_value, plane_side}
 use Rattle.bc_space.specs.Solid.{walls3, met3}
 use Rattle.bc_space.specs.Laws.SolidLaws.{solid_factor}
-use Rattle.bc_space.specs.Regions.{IsFree, mask_of, bit_of_side}
-use Rattle.bc_solid.specs.Facets.{Facet, IsOff3, AreAlike3}
+use Rattle.bc_space.specs.Regions.{mask_of}
+use Rattle.bc_solid.specs.Facets.{Facet, IsOff3}
 use Rattle.bc_solid.specs.Boxes3.{IsInside3}
 use Rattle.bc_parity.specs.Faces.{is_odd3_at, Odd3}
 use Rattle.bc_parity.specs.FaceLaws.{CellLaw3}
@@ -40,10 +37,10 @@ use Rattle.bc_tree.specs.Leaves.{IsLeaf, IsFrame3, InSlab, InLeaf3}
 use Rattle.bc_tree.specs.Holds.{Holds3}
 use Rattle.bc_tree.specs.Near.{rise3}
 use Rattle.bc_tree.proofs.Half.{slab_half}
-use Rattle.bc_audit.specs.SlabPlanes.{IsSlabPlane, slabs, ArePlanesWith}
+use Rattle.bc_audit.specs.SlabPlanes.{slabs, ArePlanesWith}
 use Rattle.bc_audit.specs.Blocks.{is_of_box, every}
 use Rattle.bc_audit.specs.Told.{leaf_told, literal_from, told_by, holds_by}
-use Rattle.bc_audit.specs.Compared.{Cell3, IsCompared, IsDifference}
+use Rattle.bc_audit.specs.Compared.{Cell3, IsCompared}
 use Rattle.bc_audit.specs.declared.verdict.Verdict.{Verdict}
 use Rattle.bc_audit.specs.declared.verdict.Verdict.TheVariants as verdicts
 use Rattle.bc_audit.specs.Audits.{IsOfBox, IsOffSlab, IsAuditPoint, IsWitness, IsVerdict, Differ}

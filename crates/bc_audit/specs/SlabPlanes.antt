@@ -1,5 +1,5 @@
 -- The slabs of a tree, and the planes of a boundary's faces and of these slabs, each once.
-use Rattle.std.specs.Prelude.{◌≡◌, ℕ, List, [], ◌∷◌, ◌++◌, map}
+use Rattle.std.specs.Prelude.{◌≡◌, List, [], ◌∷◌, ◌++◌, map}
 use Rattle.std.specs.List.{All, AllZip}
 use Rattle.bc_num.specs.declared.v3.V3.{V3}
 use Rattle.bc_num.specs.Directions3.{IsPrimitiveOf3}

@@ -1,21 +1,14 @@
 //! At which of some masks a tree holds. Each leaf is looked at once, for all masks.
-ghost use Rattle.std.specs.Prelude.{◌≡◌, ℕ, ◌<◌, ◌≤◌, length, map, get_or, false, not, ◌&&◌, ◌||◌, IfOk, IfSome};
+ghost use Rattle.std.specs.Prelude.{◌≡◌, ℕ, ◌<◌, length, map, get_or, false, not, ◌&&◌, ◌||◌, IfOk, IfSome};
 ghost use Rattle.bc_tree.specs.Shape.{shape, shapes, AllLeaves, EachLeaf};
 ghost use Rattle.bc_tree.specs.Leaves.{IsLeaf};
-ghost use Rattle.bc_audit.specs.Told.{has_bit as bit_set, told_by, leaf_told, holds_by, some_holds, each_holds};
+ghost use Rattle.bc_audit.specs.Told.{told_by, leaf_told, holds_by, some_holds, each_holds};
 
 use crate::literal::{Literal, literal_of};
 use bc_num::Memory;
 use bc_space::Plane3;
-use bc_tree::{Leaf, Tree};
+use bc_tree::{Leaf, Tree, has_bit};
 use std::alloc::Global;
-
-fn has_bit(mask: u64, i: usize) -> bool
-    requires { i < 64 }
-    ensures { result ≡ bit_set mask i }
-{
-    (mask >> i) & 1 == 1
-}
 
 // The same answer at each of the masks.
 fn everywhere(alloc: Global, masks: &[u64], holds: bool) -> Result<Vec<bool>, Memory>
@@ -30,7 +23,6 @@ fn everywhere(alloc: Global, masks: &[u64], holds: bool) -> Result<Vec<bool>, Me
 
 // Which of the masks are on the side of the literal.
 fn side_holds(alloc: Global, literal: Literal, masks: &[u64]) -> Result<Vec<bool>, Memory>
-    requires { literal.plane < 64 }
     ensures { IfOk result (λ found. found.items ≡ map (λ m. told_by m (Some literal)) masks.now) }
 {
     let mut found = Vec::new(alloc);
@@ -47,7 +39,6 @@ fn leaf_holds(
     masks: &[u64],
 ) -> Result<Vec<bool>, Memory>
     requires leaf { IsLeaf leaf.now }
-    requires few { length planes.now ≤ 64 }
     ensures { IfOk result (λ found. found.items ≡ map (λ m. leaf_told planes.now m leaf.now) masks.now) }
 {
     match leaf {
@@ -106,7 +97,6 @@ pub(crate) fn holds_at(
     masks: &[u64],
 ) -> Result<Vec<bool>, Memory>
     requires leaves { AllLeaves IsLeaf (shape t.now) }
-    requires few { length planes.now ≤ 64 }
     ensures { IfOk result (λ found. found.items ≡ map (λ m. holds_by (leaf_told planes.now m) (shape t.now)) masks.now) }
 {
     match t {
@@ -129,7 +119,6 @@ fn some_holds_at(
     masks: &[u64],
 ) -> Result<Vec<bool>, Memory>
     requires leaves { EachLeaf IsLeaf (shapes kids.now) }
-    requires few { length planes.now ≤ 64 }
     ensures { IfOk result (λ found. found.items ≡ map (λ m. some_holds (leaf_told planes.now m) (shapes kids.now)) masks.now) }
 {
     let mut found = everywhere(alloc, masks, false)?;
@@ -148,7 +137,6 @@ fn each_holds_at(
     masks: &[u64],
 ) -> Result<Vec<bool>, Memory>
     requires leaves { EachLeaf IsLeaf (shapes kids.now) }
-    requires few { length planes.now ≤ 64 }
     ensures { IfOk result (λ found. found.items ≡ map (λ m. each_holds (leaf_told planes.now m) (shapes kids.now)) masks.now) }
 {
     let mut found = everywhere(alloc, masks, true)?;

@@ -9,7 +9,7 @@ use Rattle.bc_space.specs.Regions.{IsInRegion}
 use Rattle.bc_space.specs.Laws.{EdgeLaw, SizeLaw}
 use Rattle.bc_cells.specs.declared.cell.Cell.{Cell}
 use Rattle.bc_cells.specs.Cells.{IsCell, IsCellAmong}
-use Rattle.bc_cells.specs.Constraints.{IsInside, IsMeetOn, IsCrossing, AreNew, halves_of, facing, through}
+use Rattle.bc_cells.specs.Constraints.{IsInClosure, IsMeetOn, IsCrossing, AreNew, halves_of, facing, through}
 use Rattle.bc_cells.proofs.Regions.{Near, halves_facing, strict_facing, inside_near, near_region}
 use Rattle.std.proofs.lemmas.List.Elements.{All-contains, All-push, Contains-get_or}
 use Rattle.bc_cells.specs.Gathers.{Gathers}
@@ -73,7 +73,7 @@ module _ {P H : Type 0} (side : H → P → Side) (met : List H → Option P) (d
   }
 
 module _ {S P H B : Type 0} {small : P → Type 0} {side : H → P → Side} {met : List H → Option P} {dimension : ℕ} {walls : B → List H} (law : EdgeLaw side met dimension walls) (b : B) (hs : List H) (q : Cell S P H B) (cell : IsCell small side met dimension (walls b) hs q) (h : H) where
-  region_of : (c : P) → IsInside side (map (facing {S = S} {B = B} side q.inner) (walls b ++ hs)) c → IsInRegion side (walls b) hs q.inner c
+  region_of : (c : P) → IsInClosure side (map (facing {S = S} {B = B} side q.inner) (walls b ++ hs)) c → IsInRegion side (walls b) hs q.inner c
   region_of c i =
       near_region side (walls b) hs q.inner c cell.free
       (subst (λ (gs : List H). Near side gs q.inner c) (halves_facing S B side q.inner (walls b ++ hs))
@@ -88,7 +88,7 @@ module _ {S P H B : Type 0} {small : P → Type 0} {side : H → P → Side} {me
       ]
 
   pub crossings_new : (points new : List P) → ((c : P) → Contains points c ↔ IsCrossing side met dimension (walls b ++ hs) h q.corners c)
-      → ((c : P) → Contains new c ↔ (Contains points c × IsInside {S = S} {B = B} side (map (facing side q.inner) (walls b ++ hs)) c))
+      → ((c : P) → Contains new c ↔ (Contains points c × IsInClosure {S = S} {B = B} side (map (facing side q.inner) (walls b ++ hs)) c))
       → AreNew {S = S} {B = B} side met dimension (map (facing side q.inner) (walls b ++ hs)) h q.corners new
   crossings_new points new exact kept =
       let are : halves_of (map (facing {S = S} {B = B} side q.inner) (walls b ++ hs)) ≡ walls b ++ hs = halves_facing S B side q.inner (walls b ++ hs) in
@@ -104,24 +104,24 @@ module _ {S P H B : Type 0} {small : P → Type 0} {side : H → P → Side} {me
 -- the same of a cell among the half-spaces of a list
 pub among_new : {S P H B : Type 0} {small : P → Type 0} {side : H → P → Side} {met : List H → Option P} {dimension : ℕ} {walls : B → List H} (law : EdgeLaw side met dimension walls) (all : List H) (q : Cell S P H B) → IsCellAmong small side met dimension walls all q → (h : H) (points new : List P)
     → ((c : P) → Contains points c ↔ IsCrossing side met dimension all h q.corners c)
-    → ((c : P) → Contains new c ↔ (Contains points c × IsInside {S = S} {B = B} side (map (facing side q.inner) all) c))
+    → ((c : P) → Contains new c ↔ (Contains points c × IsInClosure {S = S} {B = B} side (map (facing side q.inner) all) c))
     → AreNew {S = S} {B = B} side met dimension (map (facing side q.inner) all) h q.corners new
 among_new {S} {P} {H} {B} {side = side} {met = met} {dimension = dimension} law all q among h points new exact kept =
     subst (λ (gs : List H). AreNew {S = S} {B = B} side met dimension (map (facing side q.inner) gs) h q.corners new) (sym among.are)
     (crossings_new law among.bounds among.halves q among.cell h points new
     (subst (λ (gs : List H). (c : P) → Contains points c ↔ IsCrossing side met dimension gs h q.corners c) among.are exact)
-    (subst (λ (gs : List H). (c : P) → Contains new c ↔ (Contains points c × IsInside {S = S} {B = B} side (map (facing side q.inner) gs) c)) among.are kept))
+    (subst (λ (gs : List H). (c : P) → Contains new c ↔ (Contains points c × IsInClosure {S = S} {B = B} side (map (facing side q.inner) gs) c)) among.are kept))
 
 -- as `parts_of` has it
 pub among_new_of : {S P H B : Type 0} {small : P → Type 0} {side : H → P → Side} {met : List H → Option P} {dimension : ℕ} {walls : B → List H} (law : EdgeLaw side met dimension walls) (all : List H) (q : Cell S P H B) → IsCellAmong small side met dimension walls all q → (h : H) (cs found points inside new : List P)
     → cs ≡ q.corners → points ≡ found → new ≡ inside → ((c : P) → Contains found c ↔ IsCrossing side met dimension all h cs c)
-    → ((c : P) → Contains inside c ↔ (Contains points c × IsInside {S = S} {B = B} side (map (facing side q.inner) all) c))
+    → ((c : P) → Contains inside c ↔ (Contains points c × IsInClosure {S = S} {B = B} side (map (facing side q.inner) all) c))
     → AreNew {S = S} {B = B} side met dimension (map (facing side q.inner) all) h q.corners new
 among_new_of {S} {P} {H} {B} {side = side} {met = met} {dimension = dimension} law all q among h cs found points inside new e f i exact kept =
     among_new law all q among h points new
     (subst (λ (xs : List P). (c : P) → Contains xs c ↔ IsCrossing side met dimension all h q.corners c) (sym f)
     (subst (λ (us : List P). (c : P) → Contains found c ↔ IsCrossing side met dimension all h us c) e exact))
-    (subst (λ (us : List P). (c : P) → Contains us c ↔ (Contains points c × IsInside {S = S} {B = B} side (map (facing side q.inner) all) c)) (sym i) kept)
+    (subst (λ (us : List P). (c : P) → Contains us c ↔ (Contains points c × IsInClosure {S = S} {B = B} side (map (facing side q.inner) all) c)) (sym i) kept)
 
 -- crossings are of the stated size
 pub crossings_fit : {P H : Type 0} {sized : H → Type 0} {inner fits : P → Type 0} {side : H → P → Side} {mixed : P → P → P} {met : List H → Option P} {dimension : ℕ} (law : SizeLaw sized inner mixed met dimension) (weaker : (p : P) → inner p → fits p)

@@ -11,7 +11,7 @@ use Rattle.bc_space.specs.Laws.{SizeLaw, MeetLaw}
 use Rattle.bc_cells.specs.declared.constraint.Constraint.{Constraint}
 use Rattle.bc_cells.specs.Gathers.{Gathers, Selects}
 use Rattle.bc_cells.specs.declared.cell.Cell.{Cell}
-use Rattle.bc_cells.specs.Constraints.{Toward, IsInside, HasVertices, IsOnce, IsMeetOn, IsShut, IsCellOf, AreNew, halves_of, facing, inward, part_constraints}
+use Rattle.bc_cells.specs.Constraints.{Toward, IsInClosure, HasVertices, IsOnce, IsMeetOn, IsShut, IsCellOf, AreNew, halves_of, facing, inward, part_constraints}
 use Rattle.bc_cells.proofs.Lists.{all_front, all_back, all_last, all_unmap, contains_none, once_nil}
 use Rattle.bc_cells.proofs.Choices.{meet_keep, meet_on, meet_last, meet_none}
 use Rattle.bc_cells.proofs.Gather.{take_step, gathers_old, gathers_all, selects_gathers}
@@ -155,7 +155,7 @@ facing_sized {S} {P} {H} {B} sized side q gs fs e all =
 
 -- what the body of `points_inside` makes
 pub inside_gathered : {S P H B : Type 0} (side : H → P → Side) (fs gs : List (Constraint S P H B)) (points xs ys : List P) → fs ≡ gs → xs ≡ [] → Gathers xs ys (λ c. Contains points c × All (λ f. Toward f.side (side f.half c)) fs)
-    → (c : P) → Contains ys c ↔ (Contains points c × IsInside side gs c)
+    → (c : P) → Contains ys c ↔ (Contains points c × IsInClosure side gs c)
 inside_gathered {S} {P} {H} {B} side fs gs points xs ys e n a c =
     let h = gathers_all xs ys (λ d. Contains points d × All (λ (f : Constraint S P H B). Toward f.side (side f.half d)) gs) n
     (subst (λ (zs : List (Constraint S P H B)). Gathers xs ys (λ d. Contains points d × All (λ f. Toward f.side (side f.half d)) zs)) e a) c in

@@ -14,7 +14,7 @@ Toward On t = Unit {0}
 Toward Above t = t ≢ Below
 
 -- in the closed region
-pub record IsInside {S P H B : Type 0} (side : H → P → Side) (constraints : List (Constraint S P H B)) (p : P) : Type 0 where
+pub record IsInClosure {S P H B : Type 0} (side : H → P → Side) (constraints : List (Constraint S P H B)) (p : P) : Type 0 where
   pub toward : All (λ f. Toward f.side (side f.half p)) constraints
 
 -- in the open region
@@ -28,7 +28,7 @@ halves_of fs = map (λ f. f.half) fs
 -- a corner of the region
 pub record IsVertex {S P H B : Type 0} (side : H → P → Side) (met : List H → Option P) (dimension : ℕ) (constraints : List (Constraint S P H B)) (c : P) : Type 0 where
   pub meet : IsMeet met dimension (halves_of constraints) c
-  pub inside : IsInside side constraints c
+  pub inside : IsInClosure side constraints c
 
 -- no element twice
 abbrev pub IsOnce : {X : Type 0} → List X → Type 0
@@ -76,8 +76,8 @@ pub record IsCrossing {P H : Type 0} (side : H → P → Side) (met : List H →
 -- no old corners
 pub record AreNew {S P H B : Type 0} (side : H → P → Side) (met : List H → Option P) (dimension : ℕ) (constraints : List (Constraint S P H B)) (h : H) (old new : List P) : Type 0 where
   pub meets : (c : P) → Contains new c → IsMeetOn met dimension (halves_of constraints) h c
-  pub inside : (c : P) → Contains new c → IsInside side constraints c
-  pub all : (c : P) → IsMeetOn met dimension (halves_of constraints) h c → IsInside side constraints c → Contains old c ⊎ Contains new c
+  pub inside : (c : P) → Contains new c → IsInClosure side constraints c
+  pub all : (c : P) → IsMeetOn met dimension (halves_of constraints) h c → IsInClosure side constraints c → Contains old c ⊎ Contains new c
 
 -- the side of q
 abbrev pub facing : {S P H B : Type 0} → (H → P → Side) → P → H → Constraint S P H B

@@ -2,7 +2,7 @@
 ghost use Rattle.std.specs.Prelude.{◌≡◌, ◌≢◌, ◌↔◌, ◌*◌, ◌<◌, ◌≤◌, length, map, IsTrue, IfOk, OnOk, MatchOption, Some};
 ghost use Rattle.std.specs.List.{All, Contains};
 ghost use Rattle.bc_space.specs.declared.side.Side.TheVariants.{On};
-ghost use Rattle.bc_cells.specs.Constraints.{Toward, IsInside, IsStrict, IsOnce, IsShut, HasVertices, IsCellOf, facing, inward};
+ghost use Rattle.bc_cells.specs.Constraints.{Toward, IsInClosure, IsStrict, IsOnce, IsShut, HasVertices, IsCellOf, facing, inward};
 ghost use Rattle.bc_cells.specs.Gathers.{Gathers, Selects};
 
 use crate::{Cell, Constraint};
@@ -77,7 +77,7 @@ pub(crate) fn points_inside<S: Space>(
     requires sized { All S.half_fits halves.now }
     requires fits { S.point_fits q.now }
     requires points { All S.point_fits points.now }
-    ensures { IfOk result (λ kept. (c : S.Point) → Contains kept c ↔ (Contains points.now c × IsInside {S = S} {B = S.Bounds} S.Half.side_of (map (facing S.Half.side_of q.now) halves.now) c)) }
+    ensures { IfOk result (λ kept. (c : S.Point) → Contains kept c ↔ (Contains points.now c × IsInClosure {S = S} {B = S.Bounds} S.Half.side_of (map (facing S.Half.side_of q.now) halves.now) c)) }
 {
     let mut kept = List::new(alloc);
     if points.is_empty() {

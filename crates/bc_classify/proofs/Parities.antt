@@ -59,7 +59,7 @@ both_same i i' true b b' h k = rw h refl
 both_same i i' false b b' h k = rw (h, k refl) refl
 
 -- p and q are on none of the lines of the element, and Above the same
-abbrev IsAlike : P2 → P2 → Element → Type 0
+abbrev pub IsAlike : P2 → P2 → Element → Type 0
 IsAlike p q e =
     ForHalves (λ h. is_line h ≡ true → IsOn h p → ⊥) e
     × ForHalves (λ h. is_line h ≡ true → IsOn h q → ⊥) e
@@ -82,7 +82,7 @@ flip_same es t k p q (Arc a b c ccw) m (f, g, s) =
     (left_same a b p q (f.0 n refl) (g.0 n refl) (s.0 n refl)) (right_same a b p q (f.0 n refl) (g.0 n refl) (s.0 n refl)))
 
 -- an element flips a mask's parity at p just where it flips that at q
-flips_moved : (t : Curves) (mask : ℕ) (p q : P2) (e : Element) → IsAlike p q e → flips t p mask e ≡ flips t q mask e
+pub flips_moved : (t : Curves) (mask : ℕ) (p q : P2) (e : Element) → IsAlike p q e → flips t p mask e ≡ flips t q mask e
 flips_moved t mask p q (Edge a b) alike = refl
 flips_moved t mask p q (Arc a b c ccw) (f, g, s) =
     both_same (has_disc mask (length t.lines) t.discs c (square_between c a)) (has_disc mask (length t.lines) t.discs c (square_between c a)) (is_same a b)

@@ -13,7 +13,7 @@ use Rattle.bc_space.specs.Regions.{bit_of_side, mask_of}
 use Rattle.bc_discs.specs.declared.choice.Choice.{Choice}
 use Rattle.bc_discs.specs.Rules.{is_above, walls_of, choices_of, IsAround, IsCutOff, AreApart, IsNestedIn, IsDropped}
 use Rattle.bc_discs.specs.Candidates.{Region}
-use Rattle.bc_discs.specs.Laws.{IsWithinWall, IsRegion, IsPointOf}
+use Rattle.bc_discs.specs.Laws.{IsWithinWall, IsRegion, IsPointOfRegion}
 use Rattle.bc_discs.proofs.Geometry.{around_law, cut_off_law, apart_law, nested_law}
 use Rattle.bc_discs.proofs.Regions.{in_walls}
 
@@ -64,7 +64,7 @@ some_of : {X : Type 0} (P Q : X → Type 0) (xs : List X) {R : Type 0} → All P
 some_of P Q xs ps (k, x, l, e, q) f = f x (subst P e (ps k x l)) q
 
 module _ (b : Box2) (ls : List Line2) (ds : List Disc2) (region : Region) (p : P2) where
-  pub drop_law : IsRegion b ls region → IsPointOf b ls region p → All (λ d. disc_side d p ≢ On) ds → IsDropped region.corners (walls_of b ls region.inner) (choices_of (mask_of disc_side ds p) ds) → ⊥
+  pub drop_law : IsRegion b ls region → IsPointOfRegion b ls region p → All (λ d. disc_side d p ≢ On) ds → IsDropped region.corners (walls_of b ls region.inner) (choices_of (mask_of disc_side ds p) ds) → ⊥
   drop_law cell of off (inl (inl h)) =
       some_of (IsOf p) (λ c. (c.is_in ≡ false) × IsAround region.corners c.disc) (choices_of (mask_of disc_side ds p) ds) (all_of ds p off) h
       (λ c o q. around_law b ls region c.disc p cell of q.1 (below_if p c o q.0))

@@ -33,13 +33,13 @@ abbrev pub IsRegion : Box2 → List Line2 → Region → Type 0
 IsRegion b ls region = IsCell IsSmallPoint line_side met2 2 (walls2 b) ls region
 
 -- p is a free point of the region
-pub record IsPointOf (b : Box2) (ls : List Line2) (region : Region) (p : P2) : Type 0 where
+pub record IsPointOfRegion (b : Box2) (ls : List Line2) (region : Region) (p : P2) : Type 0 where
   pub free : IsFree line_side (walls2 b) ls p
   pub of_mask : mask_of line_side ls p ≡ region.mask
 
 -- where each corner of a region is in a closed disc, no free point of the region is strictly outside it
 abbrev pub AroundLaw : Type 0
-AroundLaw = (b : Box2) (ls : List Line2) (region : Region) (d : Disc2) (p : P2) → IsRegion b ls region → IsPointOf b ls region p → IsAround region.corners d → disc_side d p ≢ Below
+AroundLaw = (b : Box2) (ls : List Line2) (region : Region) (d : Disc2) (p : P2) → IsRegion b ls region → IsPointOfRegion b ls region p → IsAround region.corners d → disc_side d p ≢ Below
 
 -- a point strictly within a wall that cuts a disc off is strictly outside the disc
 abbrev pub CutOffLaw : Type 0
@@ -55,11 +55,11 @@ NestedLaw = (d e : Disc2) (p : P2) → IsNestedIn d e → disc_side d p ≡ Abov
 
 -- no rule drops the region of a free point that is on no circle with the set of discs that the point is strictly inside
 abbrev pub DropLaw : Type 0
-DropLaw = (b : Box2) (ls : List Line2) (ds : List Disc2) (region : Region) (p : P2) → IsRegion b ls region → IsPointOf b ls region p → All (λ d. disc_side d p ≢ On) ds → IsKept b ls ds region (mask_of disc_side ds p)
+DropLaw = (b : Box2) (ls : List Line2) (ds : List Disc2) (region : Region) (p : P2) → IsRegion b ls region → IsPointOfRegion b ls region p → All (λ d. disc_side d p ≢ On) ds → IsKept b ls ds region (mask_of disc_side ds p)
 
 -- each sample of a region is a free point of it
 abbrev pub SampleLaw : Type 0
-SampleLaw = (b : Box2) (ls : List Line2) (region : Region) (s : P2) → IsRegion b ls region → IsSample region.corners s → IsPointOf b ls region s
+SampleLaw = (b : Box2) (ls : List Line2) (region : Region) (s : P2) → IsRegion b ls region → IsSample region.corners s → IsPointOfRegion b ls region s
 
 -- q is a free point that is on no circle, and has this mask
 pub record IsPointWith (b : Box2) (ls : List Line2) (ds : List Disc2) (q : P2) (mask : ℕ) : Type 0 where

@@ -1,6 +1,5 @@
 pub mod Added
 pub mod Canonical
-pub mod FaceCorners
 pub mod FirstSeen
 pub mod Gathering
 pub mod Lists

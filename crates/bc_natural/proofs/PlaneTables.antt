@@ -18,7 +18,7 @@ use Rattle.bc_space.specs.Planes.{plane_value, plane_side, IsSizedPlane}
 use Rattle.bc_solid.specs.Facets.{Facet, IsFacet, IsSolid, IsOnPlane, IsOff3, AreAlike3}
 use Rattle.bc_natural.specs.Noted.{with_new}
 use Rattle.bc_natural.specs.Planes.{Planes, planes_of, IsPlaneOf, is_same_plane, ArePlanes, ArePlanesSized, plane_mask}
-use Rattle.bc_natural.proofs.FaceCorners.{facet_at}
+use Rattle.bc_solid.proofs.Facets.{facet_at}
 use Rattle.bc_natural.proofs.FirstSeen.{IsTableOf, contains_at, all_with, laws_by_key, table_nil, table_more, table_has, table_from, table_same}
 use Rattle.bc_natural.proofs.Lists.{front_more, place_has}
 use Rattle.bc_natural.proofs.Masks.{same_bits}

@@ -7,7 +7,7 @@ ghost use Rattle.bc_natural.specs.Spans.{AreSpans, AreHulls, IsAt, IsAlong};
 ghost use Rattle.bc_natural.specs.Planes.{IsNearBox3};
 
 use crate::bounds2::hull_of;
-use crate::corners::{first_corner, near_corner};
+use crate::corners::first_corner;
 use crate::span::{Extent3, Span};
 use bc_num::{Box3, V3};
 use bc_solid::Solid;
@@ -51,7 +51,7 @@ fn face_extent(s: &Solid, f: usize) -> Extent3
 {
     let mut all = place_extent(first_corner(s, f));
     for i in 1..s.corners(f) {
-        all = extent_hull(all, place_extent(near_corner(s, f, i)));
+        all = extent_hull(all, place_extent(s.corner(f, i)));
     }
     all
 }

@@ -5,17 +5,6 @@ ghost use Rattle.bc_solid.specs.Facets.{Facet};
 use bc_num::V3;
 use bc_solid::Solid;
 
-// Corner i of face f, which is near.
-pub(crate) fn near_corner(s: &Solid, f: usize, i: usize) -> V3
-    requires face { f < length s.now }
-    requires place { (facet : Facet) → slice_get s.now f ≡ Some facet → i < length facet.corners }
-    ensures corner { (facet : Facet) → slice_get s.now f ≡ Some facet → slice_get facet.corners i ≡ Some result }
-    ensures near { AreCoords3 result }
-{
-    s.law();
-    s.corner(f, i)
-}
-
 // The first corner of face f: each face has corners.
 pub(crate) fn first_corner(s: &Solid, f: usize) -> V3
     requires { f < length s.now }
@@ -23,5 +12,5 @@ pub(crate) fn first_corner(s: &Solid, f: usize) -> V3
     ensures near { AreCoords3 result }
 {
     s.law();
-    near_corner(s, f, 0)
+    s.corner(f, 0)
 }

@@ -1,15 +1,14 @@
 -- The chord law.
 use Rattle.std.proofs.Common.{◌≡◌, ℕ, ◌+◌, Bool, true, false, ◌&&◌, ◌||◌, inl, inr, ◌≢◌, arith, refl, sym, ap, ◌∙◌}
 use Rattle.std.proofs.lemmas.Int.{ints}
-use Rattle.std.specs.Prelude.{int_lt}
-use lib.IntN.{ℤ, pos, ◌*ℤ◌}
-use lib.Signed.{◌<ℤ◌, lt_z}
+use lib.IntN.{ℤ, pos}
+use lib.Signed.{◌<ℤ◌}
 use Rattle.bc_num.specs.declared.v2.V2.{V2}
 use Rattle.bc_num.specs.declared.p2.P2.{P2}
 use Rattle.bc_parity.specs.Parity.{xor, is_odd, count}
-use Rattle.bc_num.specs.Measures.{turn, square_distance, square_between, is_same}
+use Rattle.bc_num.specs.Measures.{turn, square_distance, is_same}
 use Rattle.bc_solid.specs.Closed.{IsClosedArc}
-use Rattle.bc_parity.specs.Crossings.{Arc, half_of, is_first, lies_on, upper_first, lower_first, is_before, square_radius, is_in_disc, is_past_disc, meets_circle, is_above_upper, is_above_lower, is_crossed, crossings_of_arc, has_upper, has_lower}
+use Rattle.bc_parity.specs.Crossings.{Arc, half_of, is_first, lies_on, upper_first, lower_first, is_before, square_radius, is_in_disc, is_past_disc, meets_circle, is_above_upper, is_above_lower, is_crossed, has_upper, has_lower}
 use Rattle.bc_parity.specs.Sides.{is_left, is_right}
 use Rattle.bc_parity.specs.ChordLaw.{arc_of, ChordLaw}
 use Rattle.bc_parity.proofs.Segments.{crosses_segment, bridge, back, at_point, same_no, same_yes, same_cases}

@@ -14,7 +14,7 @@ use Rattle.bc_parity.specs.Parity.{xor}
 use Rattle.bc_parity.specs.Sums.{odd}
 use Rattle.bc_parity.proofs.Orders.{eq_yes, eq_is}
 use Rattle.bc_parity.proofs.Loops.{none, next, one_more}
-use Rattle.bc_parity.proofs.Facets.{Found, known_at}
+use Rattle.bc_parity.proofs.Places.{Found, known_at}
 
 -- a step, where the element is known by its place
 pub counted_at : {X : Type 0} (f : X → Bool) (o n b r : Bool) (es : List X) (i : ℕ) → i < length es → ((e : X) → slice_get es i ≡ Some e → b ≡ f e) → n ≡ xor o b

@@ -22,7 +22,7 @@ pub mod Joins
 pub mod Marks
 pub mod Planes
 pub mod Middles
-pub mod Facets
+pub mod Places
 pub mod Rounds
 pub mod FaceLoops
 pub mod FaceCells

@@ -1,8 +1,8 @@
 -- Outside the box of the input nothing is odd: contours strictly on one side of a line through p count evenly at p, and p
 -- is outside every disc.
-use Rattle.std.proofs.Common.{◌≡◌, Bool, true, false, ◌&&◌, ◌⊎◌, inl, inr, List, [], ◌∷◌, arith, refl, ◌∙◌, ap}
+use Rattle.std.proofs.Common.{◌≡◌, true, false, ◌&&◌, ◌⊎◌, inl, inr, List, [], ◌∷◌, arith, refl, ◌∙◌, ap}
 use Rattle.std.proofs.lemmas.Int.{ints}
-use Rattle.std.proofs.lemmas.List.Elements.{All-head, All-nil}
+use Rattle.std.proofs.lemmas.List.Elements.{All-nil}
 use Rattle.std.specs.Prelude.{All, slice_index_or, int_lt}
 use lib.IntN.{ℤ, pos, ◌+ℤ◌, ◌-ℤ◌, ◌*ℤ◌, neg_ℤ}
 use lib.Signed.{◌≤ℤ◌, ◌<ℤ◌}
@@ -16,8 +16,8 @@ use Rattle.bc_solid.specs.declared.element.Element.{Element}
 use Rattle.bc_solid.specs.declared.element.Element.TheVariants.{Edge, Arc}
 use Rattle.bc_solid.specs.Closed.{start_of, end_of, IsContour, AreClosed, joined}
 use Rattle.bc_solid.specs.Boxes.{IsBoxOf, IsOutside}
-use Rattle.bc_parity.specs.Parity.{xor, is_odd}
-use Rattle.bc_parity.specs.Crossings.{has_passed, is_above_line, crossings_of_arc}
+use Rattle.bc_parity.specs.Parity.{xor}
+use Rattle.bc_parity.specs.Crossings.{has_passed, is_above_line}
 use Rattle.bc_parity.specs.Odd.{is_odd_at}
 use Rattle.bc_parity.specs.StraightOdd.{is_straight_odd_at}
 use Rattle.bc_parity.specs.Laws.{IsAway, OutsideLaw}

@@ -5,7 +5,7 @@ use Rattle.std.specs.Prelude.{int_lt}
 use Rattle.bc_parity.proofs.Orders.{lt_yes, lt_no}
 use lib.IntN.{ℤ, pos, ◌+ℤ◌, ◌-ℤ◌, ◌*ℤ◌, neg_ℤ}
 use lib.Signed.{◌≤ℤ◌, ◌<ℤ◌}
-use Rattle.bc_algebra.proofs.Ring.{ring, quotes, by_one, by_two}
+use Rattle.bc_algebra.proofs.Ring.{ring, quotes, by_one}
 use Rattle.bc_algebra.proofs.Order.{signs, lt_by, mul_le, pos-mul, pos-square, nonneg_of-pos}
 
 not_pos-mul : (x y : ℤ) → pos 0 ≤ℤ x → y ≤ℤ pos 0 → pos 0 <ℤ (x *ℤ y) → ⊥

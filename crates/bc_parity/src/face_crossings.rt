@@ -79,27 +79,6 @@ fn crosses_edge(a: &V3, b: &V3, p: &P3) -> bool
         && is_above_or_on(width(a, b), rise(a, b), turn(a, b, p))
 }
 
-// Corner i of face f, with its size.
-fn corner_at(s: &Solid, f: usize, i: usize) -> V3
-    requires face { f < length s.now }
-    requires place { (facet : Facet) → slice_get s.now f ≡ Some facet → i < length facet.corners }
-    ensures at { (facet : Facet) → slice_get s.now f ≡ Some facet → slice_get facet.corners i ≡ Some result }
-    ensures near { AreCoords3 result }
-{
-    s.law();
-    s.corner(f, i)
-}
-
-// The plane of face f, with its size.
-pub(crate) fn plane_at(s: &Solid, f: usize) -> Plane3
-    requires face { f < length s.now }
-    ensures at { (facet : Facet) → slice_get s.now f ≡ Some facet → result ≡ facet.plane }
-    ensures sized { IsSizedPlane result }
-{
-    s.law();
-    s.plane(f)
-}
-
 // Whether the planar ray crosses an odd number of the edges of face f, seen from above.
 fn crosses_edges_oddly(s: &Solid, f: usize, p: &P3) -> bool
     requires face { f < length s.now }
@@ -107,11 +86,11 @@ fn crosses_edges_oddly(s: &Solid, f: usize, p: &P3) -> bool
     ensures { (facet : Facet) → slice_get s.now f ≡ Some facet → result ≡ odd (λ e. is_edge_crossed e p.now) (edges facet.corners) }
 {
     s.law();
-    let first = corner_at(s, f, 0);
+    let first = s.corner(f, 0);
     let mut before = first;
     let mut odd = false;
     for i in 1..s.corners(f) {
-        let corner = corner_at(s, f, i);
+        let corner = s.corner(f, i);
         odd = exactly_one(odd, crosses_edge(&before, &corner, p));
         before = corner;
     }
@@ -159,5 +138,5 @@ pub(crate) fn crosses_face(s: &Solid, f: usize, p: &P3) -> bool
     requires p_large { IsLargePoint3 p.now }
     ensures { (facet : Facet) → slice_get s.now f ≡ Some facet → result ≡ is_face_crossed facet p.now }
 {
-    is_over(&plane_at(s, f), p) && crosses_edges_oddly(s, f, p)
+    is_over(&s.plane(f), p) && crosses_edges_oddly(s, f, p)
 }

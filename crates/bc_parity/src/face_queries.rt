@@ -4,7 +4,7 @@ ghost use Rattle.bc_space.specs.Planes.{plane_value};
 ghost use Rattle.bc_solid.specs.Facets.{IsOff3};
 ghost use Rattle.bc_parity.specs.Faces.{is_odd3_at};
 
-use crate::face_crossings::{crosses_face, is_on_plane, plane_at};
+use crate::face_crossings::{crosses_face, is_on_plane};
 use crate::order::exactly_one;
 use bc_num::P3;
 use bc_solid::Solid;
@@ -30,7 +30,7 @@ pub fn on_edge3(s: &Solid, p: &P3) -> bool
     ensures off { (result ≡ false) ↔ IsOff3 s.now p.now }
 {
     for f in 0..s.faces() {
-        if is_on_plane(&plane_at(s, f), p) {
+        if is_on_plane(&s.plane(f), p) {
             return true;
         }
     }

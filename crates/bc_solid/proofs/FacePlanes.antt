@@ -10,7 +10,7 @@ use Rattle.bc_space.specs.Planes.{IsSizedPlane}
 use Rattle.bc_space.specs.PlanesThrough.{AreCollinear}
 use Rattle.bc_solid.specs.Meshes.{path}
 use Rattle.bc_solid.specs.Facets.{IsOnPlane, AreOnLine, IsSpanned}
-use Rattle.bc_solid.specs.FacePlanes.{IsFirstPlane, IsFirstOff, IsPlaneOf}
+use Rattle.bc_solid.specs.FacePlanes.{IsFirstPlane, IsFirstOff, IsPlaneOfCorners}
 use Rattle.bc_solid.specs.MeshFaults.{HasNoTwins, IsBend}
 use Rattle.bc_solid.proofs.Lists.{contains_at, all_before}
 use Rattle.bc_solid.proofs.Collinear.{three_on_line, itself_on_line}
@@ -70,7 +70,7 @@ module _ (cs : List V3) (d : V3) (l : 1 < length cs) (h : Plane3) (f : IsFirstPl
     through = f.through;
   }
 
-  pub plane_of : All (IsOnPlane h) cs → IsSizedPlane h → IsPlaneOf cs h
+  pub plane_of : All (IsOnPlane h) cs → IsSizedPlane h → IsPlaneOfCorners cs h
   plane_of a s = record { spanned = spanned; flat = a; sized = s }
 
   pub not_flat : AreOnLine cs → ⊥

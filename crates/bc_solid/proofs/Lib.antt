@@ -1,4 +1,5 @@
 pub mod Solids
+pub mod Facets
 pub mod Faults
 pub mod Walks
 pub mod ContourChecks

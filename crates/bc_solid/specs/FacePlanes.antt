@@ -25,7 +25,7 @@ pub record IsFirstOff (h : Plane3) (cs : List V3) (k : ℕ) : Type 0 where
   pub before : All (IsOnPlane h) (take k cs)
 
 -- the plane that is kept with a face
-pub record IsPlaneOf (cs : List V3) (h : Plane3) : Type 0 where
+pub record IsPlaneOfCorners (cs : List V3) (h : Plane3) : Type 0 where
   pub spanned : IsSpanned h cs
   pub flat : All (IsOnPlane h) cs
   pub sized : IsSizedPlane h

@@ -4,7 +4,7 @@ ghost use Rattle.bc_num.specs.Sizes.{AreCoords3};
 ghost use Rattle.bc_space.specs.Planes.{IsSizedPlane};
 ghost use Rattle.bc_space.specs.PlanesThrough.{AreCollinear, along_normal3};
 ghost use Rattle.bc_solid.specs.Facets.{IsOnPlane};
-ghost use Rattle.bc_solid.specs.FacePlanes.{IsFirstPlane, IsFirstOff, IsPlaneOf};
+ghost use Rattle.bc_solid.specs.FacePlanes.{IsFirstPlane, IsFirstOff, IsPlaneOfCorners};
 ghost use Rattle.bc_solid.specs.MeshFaults.{HasNoTwins, IsFaceFault};
 
 use crate::MeshFault;
@@ -65,7 +65,7 @@ pub(crate) fn face_plane(face: u32, corners: &[V3]) -> Result<Plane3, MeshFault>
     requires near { All AreCoords3 corners.now }
     requires apart { HasNoTwins corners.now }
     requires few { length corners.now ≤ 2 ^ 20 }
-    ensures plane { IfOk result (IsPlaneOf corners.now) }
+    ensures plane { IfOk result (IsPlaneOfCorners corners.now) }
     ensures fault { IfErr result (IsFaceFault face corners.now) }
 {
     if corners.len() < 2 {

@@ -1,4 +1,6 @@
 ghost use Rattle.std.specs.Prelude.{◌≡◌, ◌≤◌, ◌<◌, ◌^◌, length, slice_get, Some};
+ghost use Rattle.bc_num.specs.Sizes.{AreCoords3};
+ghost use Rattle.bc_space.specs.Planes.{IsSizedPlane};
 ghost use Rattle.bc_solid.specs.Facets.{Facet as AFacet, IsSolid};
 
 use bc_num::{List, V3};
@@ -60,16 +62,20 @@ impl Solid {
     pub fn corner(&self, f: usize, i: usize) -> V3
         requires face { f < length self.now }
         requires place { (facet : AFacet) → slice_get self.now f ≡ Some facet → i < length facet.corners }
-        ensures { (facet : AFacet) → slice_get self.now f ≡ Some facet → slice_get facet.corners i ≡ Some result }
+        ensures at { (facet : AFacet) → slice_get self.now f ≡ Some facet → slice_get facet.corners i ≡ Some result }
+        ensures near { AreCoords3 result }
     {
+        self.law();
         *self.facets.get(f).corners.get(i)
     }
 
     /// The plane of face `f`: the canonical one of three of its corners that are not on one line.
     pub fn plane(&self, f: usize) -> Plane3
         requires { f < length self.now }
-        ensures { (facet : AFacet) → slice_get self.now f ≡ Some facet → result ≡ facet.plane }
+        ensures at { (facet : AFacet) → slice_get self.now f ≡ Some facet → result ≡ facet.plane }
+        ensures sized { IsSizedPlane result }
     {
+        self.law();
         self.facets.get(f).plane
     }
 }

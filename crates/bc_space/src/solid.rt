@@ -8,7 +8,6 @@ ghost use Rattle.bc_space.specs.Solid.{
   rear3,
   low3,
   high3,
-  normal_row,
   x_row,
   y_row,
   z_row,
@@ -120,18 +119,8 @@ fn meet_of(g: &Plane3, h: &Plane3, k: &Plane3) -> Option<P3>
     let x = determinant(x_row(g), x_row(h), x_row(k));
     let y = determinant(y_row(g), y_row(h), y_row(k));
     let z = determinant(z_row(g), z_row(h), z_row(k));
-    let w = determinant(normal_row(g), normal_row(h), normal_row(k));
+    let w = determinant(g.normal(), h.normal(), k.normal());
     point_over(x, y, z, w)
-}
-
-fn normal_row(h: &Plane3) -> V3
-    ensures { result ≡ normal_row h.now }
-{
-    V3 {
-        x: h.a,
-        y: h.b,
-        z: h.c,
-    }
 }
 
 // The normal, with the offset in place of its x.

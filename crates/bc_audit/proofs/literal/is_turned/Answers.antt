@@ -1,13 +1,12 @@
-use Rattle.std.proofs.Common.{◌≡◌, Bool, sym, ap, ◌∙◌}
-use lib.IntN.{ℤ, neg_ℤ}
+use Rattle.std.proofs.Common.{ap, ◌∙◌}
+use lib.IntN.{neg_ℤ}
 use Rattle.std.specs.Int.RustNames.{FitsSigned}
 use Rattle.std.proofs.Common.{refl}
 use Rattle.std.proofs.lemmas.Int.{to_z-of_z}
 use mir.Syntax.{w64}
 use Rattle.bc_algebra.proofs.Sizes.{smalls, fits}
 use Rattle.bc_num.specs.declared.v3.V3.{V3}
-use Rattle.bc_space.specs.declared.plane3.Plane3.{Plane3}
-use Rattle.bc_audit.specs.Told.{offset, is_plane, is_turned}
+use Rattle.bc_audit.specs.Told.{offset, is_plane}
 use Rattle.bc_audit.proofs.literal.is_turned.Goals as goal
 
 pub returns : goal.returns

@@ -1,4 +1,4 @@
-use Rattle.std.proofs.Common.{◌≡◌, Bool, true, false, List, map, refl, sym, ap, ◌∙◌, subst}
+use Rattle.std.proofs.Common.{◌≡◌, true, false, List, map, refl, sym, ap, ◌∙◌, subst}
 use Rattle.bc_num.specs.Sizes.{IsLargePoint3}
 use Rattle.bc_space.specs.Planes.{plane_side}
 use Rattle.bc_space.specs.Solid.{walls3, met3}

@@ -11,7 +11,7 @@ loop-f-init c = record {
 pub loop-f-preserved : goal.loop-f-preserved
 loop-f-preserved c = record {
   table = planes_more c.args.s.now c.loop-f.f c.plane.result c.first_corner.result c.loop-f.table c.add_plane.new.self (omega arith)
-      c.plane.ensures c.first_corner.ensures.corner c.loop-f.invariant.table c.in_ok-add_plane.ensures;
+      c.plane.ensures.at c.first_corner.ensures.corner c.loop-f.invariant.table c.in_ok-add_plane.ensures;
   sized = planes_sized_more c.args.s.now c.loop-f.f c.plane.result c.first_corner.result c.loop-f.table c.add_plane.new.self c.law.ensures (omega arith)
-      c.plane.ensures c.first_corner.ensures.near c.loop-f.invariant.sized c.in_ok-add_plane.ensures;
+      c.plane.ensures.at c.first_corner.ensures.near c.loop-f.invariant.sized c.in_ok-add_plane.ensures;
 }

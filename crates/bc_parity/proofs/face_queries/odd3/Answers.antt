@@ -1,7 +1,7 @@
 use Rattle.std.proofs.Common.{length}
 use Rattle.bc_parity.specs.Sums.{odd}
 use Rattle.bc_parity.specs.Faces.{is_face_crossed}
-use Rattle.bc_parity.proofs.Facets.{place_in}
+use Rattle.bc_parity.proofs.Places.{place_in}
 use Rattle.bc_parity.proofs.FaceLoops.{counted_at}
 use Rattle.bc_parity.proofs.face_queries.odd3.Goals as goal
 
