@@ -23,9 +23,6 @@ zip_append R (x ∷ xs) us [] vs h k = absurd h
 zip_append R (x ∷ xs) us (y ∷ ys) vs h k = (h.0, zip_append R xs us ys vs h.1 k)
 
 module _ (R : Noted → Note → Type 0) where
-  pub adds_none : (old : List Note) → AddsNotes R [] old old
-  adds_none old = record { more = []; is = sym (append-nil old); each = tt }
-
   pub adds_more : (es fs : List Noted) (a b c : List Note) → AddsNotes R es a b → AddsNotes R fs b c → AddsNotes R (es ++ fs) a c
   adds_more es fs a b c h k = record {
     more = h.more ++ k.more;

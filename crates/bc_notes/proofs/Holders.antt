@@ -31,12 +31,6 @@ module _ (products : List Product) (mask : ℕ) where
   AreHolders n None = (j : ℕ) (p : Product) → j < n → slice_get products j ≡ Some p → ¬ (HoldsMask p mask)
   AreHolders n (Some k) = (k < n) × ((j : ℕ) (p : Product) → j < n → slice_get products j ≡ Some p → (HoldsMask p mask ↔ (j ≡ k)))
 
-  pub holders_start : AreHolders 0 None
-  holders_start = λ j p l at. absurd (no_less j l)
-    where
-      no_less : (j : ℕ) → j < 0 → ⊥
-      no_less j l = omega arith
-
   module _ (i : ℕ) (p : Product) (at : slice_get products i ≡ Some p) where
     -- what is at a place below i + 1
     last : (j : ℕ) (q : Product) → j < i + 1 → slice_get products j ≡ Some q → (j < i) ⊎ ((j ≡ i) × (q ≡ p))

@@ -18,9 +18,6 @@ only_bit word i j one none =
     absurd (let f : 0 ≡ 1 = sym zero ∙ (left ∙ one) in omega (arith, f)))
     (cases_eq i j)
 
-pub zero_without : (i : ℕ) → without_bit 0 i ≡ 0
-zero_without i = same_from_bits (without_bit 0 i) 0 (λ j. ⊎_elim (λ e. ap (bit_at (without_bit 0 i)) e ∙ (without_same 0 i ∙ sym (bit_at-zero j))) (λ ne. without_other 0 i j ne) (cases_eq j i))
-
 module _ (p q m i : ℕ) where
   -- the bits of p that the mask lacks, and those of q that it has
   abbrev lacks : ℕ

@@ -8,8 +8,7 @@ ghost use Rattle.bc_notes.specs.Bests.{IsSpotOf, AllAt, AreSteps, AreOwns, IsOwn
 use crate::Shown;
 use crate::best::Best;
 use crate::bests::improve_at;
-use crate::words::is_admitted;
-use bc_cover::Term;
+use bc_cover::{Term, is_admitted};
 use bc_num::Memory;
 use bc_text::Spot;
 use bc_tree::Product;

@@ -2,7 +2,7 @@ ghost use Rattle.std.specs.Prelude.{◌≡◌, ◌<◌};
 ghost use Rattle.bc_notes.specs.Products.{without_literal};
 ghost use Rattle.bc_notes.specs.Bests.{literal_of, word_of};
 
-use crate::words::take_out;
+use bc_cover::take_out;
 use bc_tree::Product;
 
 /// Which of a term's two words a literal is of.
