@@ -18,7 +18,7 @@ use Rattle.bc_space.specs.Lines.{line_side}
 use Rattle.bc_space.specs.Discs.{disc_side}
 use Rattle.bc_space.specs.Flat.{walls2, met2}
 use Rattle.bc_space.specs.Laws.FlatLaws.{flat_factor}
-use Rattle.bc_space.specs.Regions.{mask_of, IsCorner, IsFree}
+use Rattle.bc_space.specs.Regions.{mask_of, IsFree}
 use Rattle.bc_solid.specs.declared.element.Element.{Element}
 use Rattle.bc_solid.specs.declared.element.Element.TheVariants.{Edge, Arc}
 use Rattle.bc_solid.specs.HalfSpaces.{IsOff}
@@ -31,7 +31,7 @@ use Rattle.bc_natural.proofs.Masks.{same_parts, mask_below}
 use Rattle.bc_natural.proofs.Table.{one_table, contains_mapped}
 use Rattle.bc_natural.proofs.FirstSeen.{filtered}
 use Rattle.bc_cells.specs.Cells.{AreCells, HasCorners}
-use Rattle.bc_cells.proofs.Masks.{same_sides, mask_alike}
+use Rattle.bc_cells.proofs.Masks.{mask_alike}
 use Rattle.bc_discs.specs.declared.candidate.Candidate.{Candidate}
 use Rattle.bc_discs.specs.Samples.{IsSample, IsSeen}
 use Rattle.bc_discs.specs.Candidates.{Region, IsKept, mask_with, IsCandidate, AreCandidates}
@@ -59,7 +59,8 @@ use Rattle.bc_formula.proofs.Mapped.{at_place, contains_at}
 use Rattle.bc_formula.proofs.TwoLists.{any_contained}
 use Rattle.bc_formula.proofs.ContourMasks.{above_walls}
 use Rattle.bc_formula.proofs.SameRegions.{sample_moves, kept_moves}
-use Rattle.bc_formula.proofs.ContourPoints.{inside_of, disc_factor, off_from_clear}
+use Rattle.bc_discs.proofs.Shown.{disc_factor}
+use Rattle.bc_formula.proofs.ContourPoints.{inside_of, off_from_clear}
 
 -- a mark with a point as it stands in notes
 seen_case : (o : Option P2) (spot : Spot) → option_map Flat o ≡ Some spot → (q : P2) × (o ≡ Some q) × (spot ≡ Flat q)

@@ -7,9 +7,7 @@ use Rattle.std.proofs.lemmas.List.{length-map, length-append}
 use Rattle.std.proofs.lemmas.List.Elements.{All-contains, All-map}
 use Rattle.bc_num.specs.declared.v2.V2.{V2}
 use Rattle.bc_num.specs.declared.disc2.Disc2.{Disc2}
-use Rattle.bc_num.specs.declared.v3.V3.{V3}
 use Rattle.bc_space.specs.declared.line2.Line2.{Line2}
-use Rattle.bc_space.specs.declared.plane3.Plane3.{Plane3}
 use Rattle.bc_natural.specs.Curves.{Curves}
 use Rattle.bc_natural.specs.Planes.{Planes}
 use Rattle.bc_cover.specs.Covers.{Literal}
@@ -24,7 +22,7 @@ use Rattle.bc_notes.specs.Noted.{Subject, the_product, the_literal, Noted, noted
 use Rattle.bc_formula.specs.declared.terms.Division.{Division}
 use Rattle.bc_formula.specs.Geometry.{Geometry}
 use Rattle.bc_formula.specs.ContourGeometry.{strip_leaf, leaves_of}
-use Rattle.bc_formula.specs.MeshGeometry.{slab_leaf, slabs_of}
+use Rattle.bc_formula.specs.MeshGeometry.{slabs_of}
 use Rattle.bc_formula.specs.Notes.{AreNotes, IsNote, SaysOf}
 use Rattle.bc_formula.specs.Shown.{masks_of}
 use Rattle.bc_formula.specs.Divisions.{IsDivision}

@@ -1,13 +1,12 @@
 -- Regions of the plane with the same mask: they have the same corners and walls, and so the same samples and the same sets of
 -- discs that no rule drops.
-use Rattle.std.proofs.Common.{◌≡◌, ◌≢◌, ℕ, List, [], ◌∷◌, ◌++◌, map, refl, sym, ap, ◌∙◌, subst, ◌⊎◌, inl, inr}
-use Rattle.std.specs.Prelude.{false, slice_index_or}
-use Rattle.std.specs.List.{All, Any, Contains}
+use Rattle.std.proofs.Common.{◌≡◌, ◌≢◌, ℕ, List, [], ◌∷◌, ◌++◌, map, refl, sym, ◌∙◌, subst, inl, inr}
+use Rattle.std.specs.Prelude.{slice_index_or}
+use Rattle.std.specs.List.{All, Contains}
 use Rattle.std.proofs.lemmas.List.Elements.{All-contains, All-append, All-head, All-tail, Contains-get_or}
 use Rattle.bc_num.specs.declared.p2.P2.{P2}
 use Rattle.bc_num.specs.declared.box2.Box2.{Box2}
 use Rattle.bc_num.specs.declared.disc2.Disc2.{Disc2}
-use Rattle.bc_space.specs.declared.side.Side.{Side}
 use Rattle.bc_space.specs.declared.side.Side.TheVariants.{Below}
 use Rattle.bc_space.specs.declared.line2.Line2.{Line2}
 use Rattle.bc_space.specs.Lines.{line_side}

@@ -4,6 +4,7 @@ use Rattle.bc_num.specs.declared.v3.V3.{V3}
 use Rattle.bc_num.specs.declared.p3.P3.{P3}
 use Rattle.bc_num.specs.declared.box3.Box3.{Box3}
 use Rattle.bc_space.specs.declared.plane3.Plane3.{Plane3}
+use Rattle.bc_space.specs.Planes.{plane_normal}
 use Rattle.bc_solid.specs.Facets.{Facet, IsOff3}
 use Rattle.bc_solid.specs.Boxes3.{IsBoxOf3, IsInside3, IsOutside3}
 use Rattle.bc_parity.specs.Faces.{Odd3}
@@ -16,10 +17,6 @@ use Rattle.bc_text.specs.declared.note.Spot.TheVariants as spots
 use Rattle.bc_num.specs.Points.{IsReduced3}
 use Rattle.bc_formula.specs.MeshPoints.{IsCellMask}
 use Rattle.bc_formula.specs.Geometry.{Geometry}
-
--- the normal of the plane
-abbrev pub plane_normal : Plane3 → V3
-plane_normal h = record { x = h.a; y = h.b; z = h.c }
 
 -- the slab of a plane with its origin
 abbrev pub slab_leaf : Plane3 × V3 → Leaf

@@ -17,7 +17,7 @@ ghost use Rattle.bc_formula.specs.Headline.{IsFormula};
 use crate::terms::{Division, Formula, Parts, formula_of};
 use bc_cells::cells;
 use bc_classify::laws::odd_mask_law;
-use bc_classify::{Marked2, classify2};
+use bc_classify::{Marked2, Split2, classify2};
 use bc_discs::candidates;
 use bc_natural::{CurveTable, NatFault, box2, curves};
 use bc_notes::Shown;
@@ -39,8 +39,8 @@ fn spot(seen: Option<P2>) -> Option<Spot>
     }
 }
 
-/// The masks as notes have them: each with its point, if it has one.
-pub fn shown(alloc: Global, marks: &[Marked2]) -> Result<Vec<Shown>, Memory>
+// The masks as notes have them: each with its point, if it has one.
+fn shown(alloc: Global, marks: &[Marked2]) -> Result<Vec<Shown>, Memory>
     ensures { IfOk result (λ v. v.items ≡ map shown2 marks.now) }
 {
     let mut shown = Vec::new(alloc);
@@ -51,6 +51,17 @@ pub fn shown(alloc: Global, marks: &[Marked2]) -> Result<Vec<Shown>, Memory>
         })?;
     }
     Ok(shown)
+}
+
+/// The masks inside and outside as notes have them.
+pub fn parts_of(alloc: Global, split: &Split2) -> Result<Parts, Memory>
+    ensures inside { IfOk result (λ m. m.inside.items ≡ map shown2 split.now.inside) }
+    ensures outside { IfOk result (λ m. m.outside.items ≡ map shown2 split.now.outside) }
+{
+    Ok(Parts {
+        inside: shown(alloc, split.inside.as_slice())?,
+        outside: shown(alloc, split.outside.as_slice())?,
+    })
 }
 
 // The masks of the regions of the lines with sets of discs, by whether they are odd, with the samples that were seen.
@@ -76,10 +87,7 @@ fn divide(
     profile.law();
     odd_mask_law(profile, table);
     straight_cell_law(profile);
-    Ok(Parts {
-        inside: shown(alloc, split.inside.as_slice())?,
-        outside: shown(alloc, split.outside.as_slice())?,
-    })
+    parts_of(alloc, &split)
 }
 
 // The direction whose normal, turned to the left, is that of the line.
@@ -136,23 +144,33 @@ pub fn leaves(alloc: Global, table: &CurveTable) -> Result<List<Leaf>, Memory>
     Ok(leaves)
 }
 
+// What the contours of a table divide their box into.
+fn division_of(alloc: Global, profile: &Profile, table: &CurveTable) -> Result<Division, Memory>
+    requires curves { AreCurves profile.now table.now }
+    requires sized { AreSized table.now }
+    requires few { AreFew table.now }
+    ensures { IfOk result (λ d. (box : ABox) × IsDivision contours profile.now box d) }
+{
+    outside_law2(profile);
+    let tile = box2(profile);
+    let parts = divide(alloc, profile, table, &tile)?;
+    Ok(Division {
+        block: Leaf::Tile(tile),
+        head: Head::Contour(tile),
+        leaves: leaves(alloc, table)?,
+        inside: parts.inside,
+        outside: parts.outside,
+    })
+}
+
 /// What closed contours divide their box into. `TooManyLines` or `TooManyDiscs` where they have more half-spaces than a
 /// conversion takes.
 pub fn contour_division(alloc: Global, profile: &Profile) -> Result<Division, NatFault>
     ensures ok { IfOk result (λ d. (box : ABox) × IsDivision contours profile.now box d) }
     ensures err { IfErr result (IsLimitFault profile.now) }
 {
-    outside_law2(profile);
     let table = curves(alloc, profile)?;
-    let tile = box2(profile);
-    let parts = divide(alloc, profile, &table, &tile)?;
-    Ok(Division {
-        block: Leaf::Tile(tile),
-        head: Head::Contour(tile),
-        leaves: leaves(alloc, &table)?,
-        inside: parts.inside,
-        outside: parts.outside,
-    })
+    Ok(division_of(alloc, profile, &table)?)
 }
 
 /// The formula of closed contours: terms of the half-spaces that they induce. `TooManyLines` or `TooManyDiscs` where these

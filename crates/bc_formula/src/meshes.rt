@@ -7,19 +7,19 @@ ghost use Rattle.bc_tree.specs.Shape.{shape};
 ghost use Rattle.bc_formula.specs.Shown.{masks_of, AreShownParts};
 ghost use Rattle.bc_formula.specs.MeshDivision.{shown3};
 ghost use Rattle.bc_formula.specs.Divisions.{AreDivided, AreMasks, IsDivision};
-ghost use Rattle.bc_formula.specs.MeshGeometry.{meshes, plane_normal, slabs_of};
+ghost use Rattle.bc_formula.specs.MeshGeometry.{meshes, slabs_of};
 ghost use Rattle.bc_formula.specs.Headline.{IsFormula};
 
 use crate::terms::{Division, Formula, Parts, formula_of};
 use bc_cells::cells;
 use bc_classify::laws::odd_cell_law;
-use bc_classify::{Marked3, classify3};
+use bc_classify::{Marked3, Split3, classify3};
 use bc_natural::{NatFault, PlaneTable, box3, planes};
 use bc_notes::Shown;
-use bc_num::{Box3, List, Memory, V3, reduce3};
+use bc_num::{Box3, List, Memory, reduce3};
 use bc_parity::laws::outside_law3;
 use bc_solid::Solid;
-use bc_space::{Plane3, Solid3};
+use bc_space::Solid3;
 use bc_text::{Head, Spot};
 use bc_tree::{Frame3, Leaf};
 use std::alloc::Global;
@@ -36,8 +36,8 @@ fn shown_mark(mark: &Marked3) -> Shown
     }
 }
 
-/// The masks as notes have them: each with its point in lowest terms.
-pub fn shown(alloc: Global, marks: &[Marked3]) -> Result<Vec<Shown>, Memory>
+// The masks as notes have them: each with its point in lowest terms.
+fn shown(alloc: Global, marks: &[Marked3]) -> Result<Vec<Shown>, Memory>
     requires { All (λ m. IsLargePoint3 m.inner) marks.now }
     ensures { IfOk result (λ v. v.items ≡ map shown3 marks.now) }
 {
@@ -46,6 +46,19 @@ pub fn shown(alloc: Global, marks: &[Marked3]) -> Result<Vec<Shown>, Memory>
         shown.push(shown_mark(mark))?;
     }
     Ok(shown)
+}
+
+/// The masks inside and outside as notes have them.
+pub fn parts_of(alloc: Global, split: &Split3) -> Result<Parts, Memory>
+    requires inside { All (λ m. IsLargePoint3 m.inner) split.now.inside }
+    requires outside { All (λ m. IsLargePoint3 m.inner) split.now.outside }
+    ensures inside { IfOk result (λ m. m.inside.items ≡ map shown3 split.now.inside) }
+    ensures outside { IfOk result (λ m. m.outside.items ≡ map shown3 split.now.outside) }
+{
+    Ok(Parts {
+        inside: shown(alloc, split.inside.as_slice())?,
+        outside: shown(alloc, split.outside.as_slice())?,
+    })
 }
 
 // The masks of the cells of the planes, by whether they are odd, with their points.
@@ -62,20 +75,7 @@ fn divide(alloc: Global, solid: &Solid, table: &PlaneTable, block: &Box3) -> Res
     let all = cells::<Solid3>(alloc, block, planes.as_slice())?;
     let split = classify3(alloc, solid, &all)?;
     odd_cell_law(solid, table);
-    Ok(Parts {
-        inside: shown(alloc, split.inside.as_slice())?,
-        outside: shown(alloc, split.outside.as_slice())?,
-    })
-}
-
-fn normal(plane: &Plane3) -> V3
-    ensures { result ≡ plane_normal plane.now }
-{
-    V3 {
-        x: plane.a,
-        y: plane.b,
-        z: plane.c,
-    }
+    parts_of(alloc, &split)
 }
 
 // The slab of the plane with this number.
@@ -86,7 +86,7 @@ fn slab(table: &PlaneTable, i: usize) -> Leaf
     let (plane, o) = table.entry(i);
     Leaf::Slab(Frame3 {
         o,
-        n: normal(&plane),
+        n: plane.normal(),
     })
 }
 
@@ -101,23 +101,33 @@ pub fn slabs(alloc: Global, table: &PlaneTable) -> Result<List<Leaf>, Memory>
     Ok(leaves)
 }
 
+// What the mesh of a table divides its box into.
+fn division_of(alloc: Global, solid: &Solid, table: &PlaneTable) -> Result<Division, Memory>
+    requires planes { ArePlanes solid.now table.now }
+    requires sized { ArePlanesSized table.now }
+    requires few { ArePlanesFew table.now }
+    ensures { IfOk result (λ d. (box : ABox) × IsDivision meshes solid.now box d) }
+{
+    solid.law();
+    outside_law3(solid);
+    let block = box3(solid);
+    let parts = divide(alloc, solid, table, &block)?;
+    Ok(Division {
+        block: Leaf::Block(block),
+        head: Head::Solid(block),
+        leaves: slabs(alloc, table)?,
+        inside: parts.inside,
+        outside: parts.outside,
+    })
+}
+
 /// What a closed mesh divides its box into. `TooManyPlanes` where it has more half-spaces than a conversion takes.
 pub fn mesh_division(alloc: Global, solid: &Solid) -> Result<Division, NatFault>
     ensures ok { IfOk result (λ d. (box : ABox) × IsDivision meshes solid.now box d) }
     ensures err { IfErr result (IsPlaneLimitFault solid.now) }
 {
-    solid.law();
-    outside_law3(solid);
     let table = planes(alloc, solid)?;
-    let block = box3(solid);
-    let parts = divide(alloc, solid, &table, &block)?;
-    Ok(Division {
-        block: Leaf::Block(block),
-        head: Head::Solid(block),
-        leaves: slabs(alloc, &table)?,
-        inside: parts.inside,
-        outside: parts.outside,
-    })
+    Ok(division_of(alloc, solid, &table)?)
 }
 
 /// The formula of a closed mesh: terms of the half-spaces of its planes. `TooManyPlanes` where these are more than a

@@ -1,7 +1,7 @@
 -- The cells of two meshes: which masks are chosen by the operation, and the points that show them.
-use Rattle.std.proofs.Common.{◌≡◌, ◌≢◌, ◌↔◌, ◌<◌, ◌^◌, ℕ, Bool, true, false, not, List, map, length, refl, sym, ap, ◌∙◌, subst, arith}
+use Rattle.std.proofs.Common.{◌≡◌, ◌<◌, ◌^◌, ℕ, Bool, true, false, not, List, map, length, refl, sym, ap, ◌∙◌, subst, arith}
 use Rattle.std.specs.Prelude.{filter, slice_index_or}
-use Rattle.std.specs.List.{All, Contains}
+use Rattle.std.specs.List.{Contains}
 use Rattle.std.proofs.lemmas.List.{length-map}
 use Rattle.std.proofs.lemmas.List.Elements.{All-contains}
 use Rattle.bc_num.specs.declared.v3.V3.{V3}
@@ -25,7 +25,6 @@ use Rattle.bc_combine.specs.Combined.{is_true_of, is_chosen3}
 use Rattle.bc_notes.specs.declared.shown.Shown.{Shown}
 use Rattle.bc_formula.specs.MeshDivision.{shown3}
 use Rattle.bc_formula.specs.MeshGeometry.{meshes, slab_leaf, slabs_of}
-use Rattle.bc_formula.specs.Notes.{IsFreePoint}
 use Rattle.bc_formula.specs.Shown.{AreShown}
 use Rattle.bc_formula.specs.Divisions.{AreBits}
 use Rattle.bc_formula.proofs.Formulas.{true_or_not}

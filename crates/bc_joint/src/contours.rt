@@ -20,7 +20,7 @@ use bc_cells::cells;
 use bc_classify::laws::{joint_mask_law, odd_mask_law};
 use bc_combine::{Op, combine2};
 use bc_discs::candidates;
-use bc_formula::contours::{leaves, shown};
+use bc_formula::contours::{leaves, parts_of};
 use bc_formula::{Division, Formula, Parts, formula_of};
 use bc_natural::{CurveTable, NatFault, box2, curves};
 use bc_num::{Box2, Memory};
@@ -72,9 +72,32 @@ fn divide(
     joint_mask_law(a, b, table);
     straight_cell_law(a);
     straight_cell_law(b);
-    Ok(Parts {
-        inside: shown(alloc, split.inside.as_slice())?,
-        outside: shown(alloc, split.outside.as_slice())?,
+    parts_of(alloc, &split)
+}
+
+// What both parts, whose elements are those of `joint`, divide their box into.
+fn joint_division(
+    alloc: Global,
+    op: Op,
+    a: &Profile,
+    b: &Profile,
+    joint: &Profile,
+) -> Result<Division, NatFault>
+    requires { joint.now ≡ both (pair a.now b.now) }
+    ensures ok { IfOk result (λ d. (box : ABox) × IsDivision (contour_pairs op) (pair a.now b.now) box d) }
+    ensures err { IfErr result (IsLimitFault joint.now) }
+{
+    outside_law2(joint);
+    outside_pair_law(op, a, b);
+    let table = curves(alloc, joint)?;
+    let tile = box2(joint);
+    let parts = divide(alloc, op, a, b, joint, &table, &tile)?;
+    Ok(Division {
+        block: Leaf::Tile(tile),
+        head: Head::Contour(tile),
+        leaves: leaves(alloc, &table)?,
+        inside: parts.inside,
+        outside: parts.outside,
     })
 }
 
@@ -90,18 +113,7 @@ fn contour_pair_division(
     ensures err { IfErr result (IsLimitFault (a.now ++ b.now)) }
 {
     let joint = join_profiles(alloc, a, b)?;
-    outside_law2(&joint);
-    outside_pair_law(op, a, b);
-    let table = curves(alloc, &joint)?;
-    let tile = box2(&joint);
-    let parts = divide(alloc, op, a, b, &joint, &table, &tile)?;
-    Ok(Division {
-        block: Leaf::Tile(tile),
-        head: Head::Contour(tile),
-        leaves: leaves(alloc, &table)?,
-        inside: parts.inside,
-        outside: parts.outside,
-    })
+    joint_division(alloc, op, a, b, &joint)
 }
 
 /// The formula of closed contours in two parts with an operation: terms of the half-spaces that both induce. `TooManyLines`

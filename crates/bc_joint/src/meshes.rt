@@ -18,7 +18,7 @@ ghost use Rattle.bc_joint.specs.MeshPairs.{is_chosen_at3, mesh_pairs};
 use bc_cells::cells;
 use bc_classify::laws::{joint_cell_law, odd_cell_law};
 use bc_combine::{Op, combine3};
-use bc_formula::meshes::{shown, slabs};
+use bc_formula::meshes::{parts_of, slabs};
 use bc_formula::{Division, Formula, Parts, formula_of};
 use bc_natural::{NatFault, PlaneTable, box3, planes};
 use bc_num::{Box3, Memory};
@@ -64,9 +64,33 @@ fn divide(
     let split = combine3(alloc, op, a, b, &all)?;
     odd_cell_law(joint, table);
     joint_cell_law(a, b, table);
-    Ok(Parts {
-        inside: shown(alloc, split.inside.as_slice())?,
-        outside: shown(alloc, split.outside.as_slice())?,
+    parts_of(alloc, &split)
+}
+
+// What both meshes, whose faces are those of `joint`, divide their box into.
+fn joint_division(
+    alloc: Global,
+    op: Op,
+    a: &Solid,
+    b: &Solid,
+    joint: &Solid,
+) -> Result<Division, NatFault>
+    requires { joint.now ≡ both (pair a.now b.now) }
+    ensures ok { IfOk result (λ d. (box : ABox) × IsDivision (mesh_pairs op) (pair a.now b.now) box d) }
+    ensures err { IfErr result (IsPlaneLimitFault joint.now) }
+{
+    joint.law();
+    outside_law3(joint);
+    outside_pair_law(op, a, b);
+    let table = planes(alloc, joint)?;
+    let block = box3(joint);
+    let parts = divide(alloc, op, a, b, joint, &table, &block)?;
+    Ok(Division {
+        block: Leaf::Block(block),
+        head: Head::Solid(block),
+        leaves: slabs(alloc, &table)?,
+        inside: parts.inside,
+        outside: parts.outside,
     })
 }
 
@@ -78,19 +102,7 @@ fn mesh_pair_division(alloc: Global, op: Op, a: &Solid, b: &Solid) -> Result<Div
     ensures err { IfErr result (IsPlaneLimitFault (a.now ++ b.now)) }
 {
     let joint = join_solids(alloc, a, b)?;
-    joint.law();
-    outside_law3(&joint);
-    outside_pair_law(op, a, b);
-    let table = planes(alloc, &joint)?;
-    let block = box3(&joint);
-    let parts = divide(alloc, op, a, b, &joint, &table, &block)?;
-    Ok(Division {
-        block: Leaf::Block(block),
-        head: Head::Solid(block),
-        leaves: slabs(alloc, &table)?,
-        inside: parts.inside,
-        outside: parts.outside,
-    })
+    joint_division(alloc, op, a, b, &joint)
 }
 
 /// The formula of two closed meshes with an operation: terms of the half-spaces of the planes of both. `TooManyPlanes` where

@@ -1,5 +1,6 @@
-use Rattle.std.proofs.Common.{◌≡◌, ℕ, List, map, sym, ap, ◌∙◌, subst}
+use Rattle.std.proofs.Common.{ℕ, List, map, sym, ◌∙◌, subst}
 use Rattle.std.specs.Prelude.{All}
+use Rattle.std.proofs.lemmas.Result.{IfOk-weaker}
 use Rattle.bc_num.specs.declared.disc2.Disc2.{Disc2}
 use Rattle.bc_num.specs.Sizes.{IsSmallPoint}
 use Rattle.bc_space.specs.declared.line2.Line2.{Line2}
@@ -19,6 +20,7 @@ use Rattle.bc_formula.specs.Divisions.{AreMasks, AreDivided}
 use Rattle.bc_formula.proofs.ContourLeaves.{lines_sized}
 use Rattle.bc_formula.proofs.ContourMasks.{contour_masks, places}
 use Rattle.bc_formula.proofs.ContourNotes.{contour_parts, marks_masks}
+use Rattle.bc_formula.proofs.Parted.{parts_known}
 use Rattle.bc_formula.proofs.contours.divide.Goals as goal
 
 pub cells-requires-clause-sized : goal.cells-requires-clause-sized
@@ -41,12 +43,14 @@ returns c =
     let all = subst (λ (ds : List Disc2). AreCandidates c.args.tile.now (lines_of c.args.table.now) ds c.in_ok-regions.regions c.in_ok-all.all) (c.as_slice-3.ensures ∙ c.in_ok-discs.ensures) some in
     let d = contour_masks es b t c.in_ok-regions.regions c.in_ok-all.all c.in_ok-split.split table c.odd_mask_law.ensures c.requires.few cells all c.in_ok-split.ensures in
     let parts = contour_parts es b t c.in_ok-regions.regions c.in_ok-all.all c.in_ok-split.split c.requires.curves (proper_of es c.law.ensures) c.odd_mask_law.ensures c.straight_cell_law.ensures cells all c.in_ok-split.ensures in
-    let ins : map shown2 c.in_ok-split.split.inside ≡ c.in_ok-shown.field-0.items = sym (c.in_ok-shown.ensures ∙ ap (map shown2) c.as_slice-4.ensures) in
-    let outs : map shown2 c.in_ok-split.split.outside ≡ c.in_ok-shown-2.field-0.items = sym (c.in_ok-shown-2.ensures ∙ ap (map shown2) c.as_slice-5.ensures) in
     let P : List Shown → List Shown → Type 0 = λ xs ys. AreMasks (leaves_of c.args.table.now) (masks_of xs) (masks_of ys) × AreDivided contours c.args.profile.now c.args.tile.now (curve_mask c.args.table.now) (masks_of xs) (masks_of ys) × AreShownParts contours c.args.profile.now c.args.tile.now (curve_mask c.args.table.now) xs ys in
     let first : P (map shown2 c.in_ok-split.split.inside) (map shown2 c.in_ok-split.split.outside) = (all_masks c.in_ok-split.split.inside c.in_ok-split.split.outside (λ xs ys. AreMasks (leaves_of c.args.table.now) xs ys) d.0, all_masks c.in_ok-split.split.inside c.in_ok-split.split.outside (λ xs ys. AreDivided contours c.args.profile.now c.args.tile.now (curve_mask c.args.table.now) xs ys) d.1, parts) in
-    let both = subst (λ (ys : List Shown). P c.in_ok-shown.field-0.items ys) outs (subst (λ (xs : List Shown). P xs (map shown2 c.in_ok-split.split.outside)) ins first) in
-    record { masks = both.0; divided = both.1; parts = both.2 }
+    let both = parts_known P c.parts_of.result (map shown2 c.in_ok-split.split.inside) (map shown2 c.in_ok-split.split.outside) first c.parts_of.ensures.inside c.parts_of.ensures.outside in
+    record {
+      masks = IfOk-weaker c.parts_of.result (λ m. P m.inside.items m.outside.items) _ (λ m h. h.0) both;
+      divided = IfOk-weaker c.parts_of.result (λ m. P m.inside.items m.outside.items) _ (λ m h. h.1) both;
+      parts = IfOk-weaker c.parts_of.result (λ m. P m.inside.items m.outside.items) _ (λ m h. h.2) both;
+    }
   where
     all_masks : (xs ys : List Marked2) (Q : List ℕ → List ℕ → Type 0) → Q (map (λ (m : Marked2). m.mask) xs) (map (λ (m : Marked2). m.mask) ys) → Q (masks_of (map shown2 xs)) (masks_of (map shown2 ys))
     all_masks xs ys Q h = subst (λ (ns : List ℕ). Q (masks_of (map shown2 xs)) ns) (sym (marks_masks ys)) (subst (λ (ms : List ℕ). Q ms (map (λ (m : Marked2). m.mask) ys)) (sym (marks_masks xs)) h)

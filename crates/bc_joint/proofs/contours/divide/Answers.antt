@@ -1,5 +1,6 @@
 use Rattle.std.proofs.Common.{◌≡◌, not, List, map, sym, ap, ◌∙◌, subst}
-use Rattle.std.specs.Prelude.{All, filter}
+use Rattle.std.specs.Prelude.{All, filter, IfOk}
+use Rattle.std.proofs.lemmas.Result.{IfOk-weaker}
 use Rattle.bc_num.specs.declared.disc2.Disc2.{Disc2}
 use Rattle.bc_num.specs.Sizes.{IsSmallPoint}
 use Rattle.bc_space.specs.declared.line2.Line2.{Line2}
@@ -19,6 +20,7 @@ use Rattle.bc_formula.specs.ContourGeometry.{leaves_of}
 use Rattle.bc_formula.specs.ContourDivision.{shown2}
 use Rattle.bc_formula.proofs.ContourLeaves.{lines_sized}
 use Rattle.bc_formula.proofs.ContourMasks.{places}
+use Rattle.bc_formula.proofs.Parted.{parts_known}
 use Rattle.bc_joint.specs.Pairs.{pair}
 use Rattle.bc_joint.specs.ContourPairs.{contour_pairs}
 use Rattle.bc_joint.proofs.Told.{AreTold}
@@ -47,8 +49,12 @@ returns c =
     let proper = subst (All IsProper) c.requires.joined (proper_of c.args.joint.now c.law.ensures) in
     let law = subst (λ (es : List Element). OddMaskLaw es t) c.requires.joined c.odd_mask_law.ensures in
     let told = contour_told c.args.op (pair a b) c.args.tile.now t regions c.in_ok-all.all table c.requires.few proper law c.joint_mask_law.ensures c.straight_cell_law.ensures c.straight_cell_law-2.ensures cells all in
-    let ins : map shown2 (map marked (filter (is_chosen c.args.op a b t regions) c.in_ok-all.all)) ≡ c.in_ok-shown.field-0.items = sym (c.in_ok-shown.ensures ∙ ap (map shown2) (c.as_slice-4.ensures ∙ c.in_ok-split.ensures.inside)) in
-    let outs : map shown2 (map marked (filter (λ d. not (is_chosen c.args.op a b t regions d)) c.in_ok-all.all)) ≡ c.in_ok-shown-2.field-0.items = sym (c.in_ok-shown-2.ensures ∙ ap (map shown2) (c.as_slice-5.ensures ∙ c.in_ok-split.ensures.outside)) in
     let T : List Shown → List Shown → Type 0 = λ xs ys. AreTold (contour_pairs c.args.op) (pair a b) c.args.tile.now (leaves_of t) (curve_mask t) xs ys in
-    let both = subst (λ (ys : List Shown). T c.in_ok-shown.field-0.items ys) outs (subst (λ (xs : List Shown). T xs (map shown2 (map marked (filter (λ d. not (is_chosen c.args.op a b t regions d)) c.in_ok-all.all)))) ins told) in
-    record { masks = both.masks; divided = both.divided; parts = both.parts }
+    let ins : IfOk c.parts_of.result (λ m. m.inside.items ≡ map shown2 (map marked (filter (is_chosen c.args.op a b t regions) c.in_ok-all.all))) = IfOk-weaker c.parts_of.result (λ m. m.inside.items ≡ map shown2 c.in_ok-split.split.inside) _ (λ m e. e ∙ ap (map shown2) c.in_ok-split.ensures.inside) c.parts_of.ensures.inside in
+    let outs : IfOk c.parts_of.result (λ m. m.outside.items ≡ map shown2 (map marked (filter (λ d. not (is_chosen c.args.op a b t regions d)) c.in_ok-all.all))) = IfOk-weaker c.parts_of.result (λ m. m.outside.items ≡ map shown2 c.in_ok-split.split.outside) _ (λ m e. e ∙ ap (map shown2) c.in_ok-split.ensures.outside) c.parts_of.ensures.outside in
+    let both = parts_known T c.parts_of.result (map shown2 (map marked (filter (is_chosen c.args.op a b t regions) c.in_ok-all.all))) (map shown2 (map marked (filter (λ d. not (is_chosen c.args.op a b t regions d)) c.in_ok-all.all))) told ins outs in
+    record {
+      masks = IfOk-weaker c.parts_of.result (λ m. T m.inside.items m.outside.items) _ (λ m h. h.masks) both;
+      divided = IfOk-weaker c.parts_of.result (λ m. T m.inside.items m.outside.items) _ (λ m h. h.divided) both;
+      parts = IfOk-weaker c.parts_of.result (λ m. T m.inside.items m.outside.items) _ (λ m h. h.parts) both;
+    }

@@ -8,14 +8,14 @@ use Rattle.bc_formula.specs.ContourGeometry.{contours}
 use Rattle.bc_formula.specs.Divisions.{IsDivision}
 use Rattle.bc_formula.proofs.ContourLeaves.{bits_of}
 use Rattle.bc_formula.proofs.ContourNotes.{half_spaces2}
-use Rattle.bc_formula.proofs.contours.contour_division.Goals as goal
+use Rattle.bc_formula.proofs.contours.division_of.Goals as goal
 
-pub returns-clause-ok : goal.returns-clause-ok
-returns-clause-ok c =
-    let t = c.in_ok-table.table in
-    let known = c.in_ok-table.ensures in
+pub returns : goal.returns
+returns c =
+    let t = c.args.table.now in
+    let known = c.requires in
     let box = c.box2-tile.result in
-    let bits = bits_of c.args.profile.now box t known.table (table_is c.args.profile.now t known.table) known.sized known.few c.box2-tile.ensures.box_of c.box2-tile.ensures.near c.outside_law2.ensures in (
+    let bits = bits_of c.args.profile.now box t known.curves (table_is c.args.profile.now t known.curves) known.sized known.few c.box2-tile.ensures.box_of c.box2-tile.ensures.near c.outside_law2.ensures in (
       box,
       subst (λ (ls : List Leaf). IsDivision contours c.args.profile.now box (record { block = Tile box; head = Contour box; leaves = ls; inside = c.in_ok-parts.parts.inside; outside = c.in_ok-parts.parts.outside })) (sym c.in_ok-leaves.ensures)
           (record { block = refl; head = refl; mask_at = curve_mask t; bits = bits; boxed = refl; half_spaces = half_spaces2 t; masks = c.in_ok-parts.ensures.masks; divided = c.in_ok-parts.ensures.divided; parts = c.in_ok-parts.ensures.parts }),
