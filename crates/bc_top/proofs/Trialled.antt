@@ -36,7 +36,6 @@ use Rattle.bc_formula.proofs.Counted.{notes_counted, parts_counted, curves_count
 use Rattle.bc_trial.specs.Texts.{off_text, contour_text}
 use Rattle.bc_trial.specs.Laws.{IsMeshInput, IsContourInput}
 use Rattle.bc_status.specs.Faults.{Becomes}
-use Rattle.bc_status.specs.declared.status.Refusal.{Refusal}
 use Rattle.bc_status.specs.declared.status.Refusal.TheVariants as refusals
 use Rattle.bc_status.specs.declared.status.Status.{Status}
 use Rattle.bc_status.specs.declared.status.Status.TheVariants.{Done, Refused, Usage, ReadFault, WriteFault, Memory}
@@ -50,7 +49,7 @@ use Rattle.bc_top.specs.Converts.{IsConverted}
 use Rattle.bc_top.specs.Summaries.{counts_of, mesh_summary, contour_summary}
 use Rattle.bc_top.specs.Trials.{AreCounts, IsMeshTrial, IsContourTrial, IsTrial, trials}
 use Rattle.bc_top.specs.Promises.{Fulfils}
-use Rattle.bc_top.proofs.Fulfilled.{IsAlone, alone_put, alone_stop}
+use Rattle.bc_top.proofs.Fulfilled.{IsAlone, alone_put}
 use Rattle.bc_top.proofs.Settled.{no_contour_fault, no_text_fault, read_once}
 
 -- ---- two texts
