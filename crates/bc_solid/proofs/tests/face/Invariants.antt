@@ -1,5 +1,0 @@
-use Rattle.std.proofs.Common.{◌≡◌, take}
-use Rattle.bc_solid.proofs.tests.face.Given as goal
-
-abbrev pub invariant-loop-corner : goal.invariant-loop-corner
-invariant-loop-corner l = l.face ≡ take l.corner-index l.corners
