@@ -28,7 +28,7 @@ use Rattle.bc_natural.specs.Planes.{IsNearBox3}
 use Rattle.bc_natural.proofs.Masks.{bit_of_mask}
 use Rattle.bc_cells.proofs.Masks.{mask_alike, same_sides}
 use Rattle.bc_natural.proofs.FirstSeen.{contains_at}
-use Rattle.bc_cells.specs.Cells.{AreCells, IsCell}
+use Rattle.bc_cells.specs.Cells.{AreCells, IsCell, Cell3}
 use Rattle.bc_tree.specs.declared.frame.Frame3.{Frame3}
 use Rattle.bc_tree.specs.declared.tree.Leaf.{Leaf}
 use Rattle.bc_tree.specs.declared.tree.Leaf.TheVariants.{Slab, Strip, Disc, Block, Tile}
@@ -40,7 +40,7 @@ use Rattle.bc_tree.proofs.Half.{slab_half}
 use Rattle.bc_audit.specs.SlabPlanes.{slabs, ArePlanesWith}
 use Rattle.bc_audit.specs.Blocks.{is_of_box, every}
 use Rattle.bc_audit.specs.Told.{leaf_told, literal_from, told_by, holds_by}
-use Rattle.bc_audit.specs.Compared.{Cell3, IsCompared}
+use Rattle.bc_audit.specs.Compared.{IsCompared}
 use Rattle.bc_audit.specs.declared.verdict.Verdict.{Verdict}
 use Rattle.bc_audit.specs.declared.verdict.Verdict.TheVariants as verdicts
 use Rattle.bc_audit.specs.Audits.{IsOfBox, IsOffSlab, IsAuditPoint, IsWitness, IsVerdict, Differ}

@@ -1,19 +1,12 @@
 -- What a walk over cells finds: whether the parity at each inner point is what is given for the cell.
 use Rattle.std.specs.Prelude.{◌≡◌, ◌≢◌, ℕ, List, Bool, false, Some, slice_get, get_or}
 use Rattle.bc_num.specs.declared.p3.P3.{P3}
-use Rattle.bc_num.specs.declared.box3.Box3.{Box3}
 use Rattle.bc_num.specs.Points.{IsSamePoint3, IsReduced3}
-use Rattle.bc_space.specs.declared.plane3.Plane3.{Plane3}
-use Rattle.bc_space.specs.declared.solid.Solid3.{Solid3}
 use Rattle.bc_solid.specs.Facets.{Facet}
 use Rattle.bc_parity.specs.Faces.{is_odd3_at}
-use Rattle.bc_cells.specs.declared.cell.Cell.{Cell}
+use Rattle.bc_cells.specs.Cells.{Cell3}
 use Rattle.bc_audit.specs.declared.verdict.Verdict.{Verdict}
 use Rattle.bc_audit.specs.declared.verdict.Verdict.TheVariants.{Same, Differs}
-
--- a cell of space
-abbrev pub Cell3 : Type 0
-Cell3 = Cell Solid3 P3 Plane3 Box3
 
 -- cell i has another parity than is given, and p is the place of its inner point in lowest terms
 pub record IsDifference (fs : List Facet) (cells : List Cell3) (holds : List Bool) (p : P3) : Type 0 where

@@ -13,6 +13,3 @@ mod verdict;
 
 pub use fault::AuditFault;
 pub use verdict::{Verdict, audit};
-
-#[cfg(test)]
-mod tests;

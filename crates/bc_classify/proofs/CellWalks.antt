@@ -5,7 +5,8 @@ use Rattle.bc_solid.specs.Facets.{Facet}
 use Rattle.bc_parity.specs.Faces.{is_odd3_at}
 use Rattle.bc_classify.specs.declared.split3.Marked3.{Marked3}
 use Rattle.bc_classify.specs.declared.split3.Split3.{Split3}
-use Rattle.bc_classify.specs.CellSplits.{Cell3, marked3, IsSplit3}
+use Rattle.bc_cells.specs.Cells.{Cell3}
+use Rattle.bc_classify.specs.CellSplits.{marked3, IsSplit3}
 use Rattle.bc_classify.proofs.Walks.{put, left}
 
 module _ (fs : List Facet) (all : List Cell3) (i : ℕ) (c : Cell3) (l : i < length all) (at : c ≡ get_or all i c) (old new : Split3) (h : IsSplit3 fs (take i all) old) where

@@ -1,19 +1,12 @@
 -- The cells of a mesh in two lists, inside and outside.
 use Rattle.std.specs.Prelude.{◌≡◌, not, List, map, filter}
 use Rattle.bc_num.specs.declared.p3.P3.{P3}
-use Rattle.bc_num.specs.declared.box3.Box3.{Box3}
-use Rattle.bc_space.specs.declared.plane3.Plane3.{Plane3}
-use Rattle.bc_space.specs.declared.solid.Solid3.{Solid3}
 use Rattle.bc_solid.specs.Facets.{Facet, IsOff3}
 use Rattle.bc_parity.specs.Faces.{is_odd3_at}
 use Rattle.bc_natural.specs.Planes.{Planes, plane_mask}
-use Rattle.bc_cells.specs.declared.cell.Cell.{Cell}
+use Rattle.bc_cells.specs.Cells.{Cell3}
 use Rattle.bc_classify.specs.declared.split3.Marked3.{Marked3}
 use Rattle.bc_classify.specs.declared.split3.Split3.{Split3}
-
--- a cell of space
-abbrev pub Cell3 : Type 0
-Cell3 = Cell Solid3 P3 Plane3 Box3
 
 -- the cell's mask, and a point that shows it
 abbrev pub marked3 : Cell3 → Marked3

@@ -20,6 +20,3 @@ pub use odd_mask::odd_mask2;
 pub use region_parity::RegionParity;
 pub use split2::{Marked2, Split2};
 pub use split3::{Marked3, Split3};
-
-#[cfg(test)]
-mod tests;

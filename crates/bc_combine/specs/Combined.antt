@@ -10,7 +10,8 @@ use Rattle.bc_classify.specs.declared.split2.Split2.{Split2}
 use Rattle.bc_classify.specs.declared.split3.Split3.{Split3}
 use Rattle.bc_classify.specs.OddMasks.{is_odd_candidate}
 use Rattle.bc_classify.specs.Splits.{marked}
-use Rattle.bc_classify.specs.CellSplits.{Cell3, marked3}
+use Rattle.bc_cells.specs.Cells.{Cell3}
+use Rattle.bc_classify.specs.CellSplits.{marked3}
 use Rattle.bc_combine.specs.declared.op.Op.{Op}
 use Rattle.bc_combine.specs.declared.op.Op.TheVariants.{Union, Intersection, Difference}
 

@@ -9,6 +9,3 @@ mod op;
 pub use combine_candidates::combine2;
 pub use combine_cells::combine3;
 pub use op::Op;
-
-#[cfg(test)]
-mod tests;

@@ -20,5 +20,3 @@ pub(crate) use wall::Wall;
 
 #[cfg(test)]
 mod seen_tests;
-#[cfg(test)]
-mod tests;

@@ -9,6 +9,3 @@ mod shared;
 mod split;
 
 pub use build::factor;
-
-#[cfg(test)]
-mod tests;

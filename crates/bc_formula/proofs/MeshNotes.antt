@@ -25,11 +25,11 @@ use Rattle.bc_natural.specs.Planes.{Planes, planes_of, ArePlanes, plane_mask}
 use Rattle.bc_natural.proofs.Table.{contains_mapped}
 use Rattle.bc_natural.proofs.FirstSeen.{filtered}
 use Rattle.bc_natural.proofs.PlaneTables.{off_planes, off_faces, one_plane_table}
-use Rattle.bc_cells.specs.Cells.{AreCells, IsCell}
+use Rattle.bc_cells.specs.Cells.{AreCells, IsCell, Cell3}
 use Rattle.bc_cells.proofs.Masks.{mask_alike}
 use Rattle.bc_classify.specs.declared.split3.Marked3.{Marked3}
 use Rattle.bc_classify.specs.declared.split3.Split3.{Split3}
-use Rattle.bc_classify.specs.CellSplits.{Cell3, marked3, IsSplit3, OddCellLaw}
+use Rattle.bc_classify.specs.CellSplits.{marked3, IsSplit3, OddCellLaw}
 use Rattle.bc_text.specs.declared.note.Spot.TheVariants.{Solid}
 use Rattle.bc_notes.specs.Nodes.{is_half_space}
 use Rattle.bc_formula.specs.MeshGeometry.{meshes, slabs_of, slab_leaf}

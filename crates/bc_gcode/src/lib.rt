@@ -12,6 +12,3 @@ mod words;
 
 pub use fault::GFault;
 pub use read::read_contours;
-
-#[cfg(test)]
-mod tests;

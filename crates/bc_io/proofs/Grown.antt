@@ -3,7 +3,7 @@ use Rattle.std.proofs.Common.{◌≡◌, true, List, ℕ, ◌++◌, Option, Resu
 use Rattle.bc_io.specs.declared.pen.Pen.{Pen}
 use Rattle.bc_io.specs.Causes.{HasCause}
 use Rattle.bc_io.specs.Pieces.{Puts}
-use Rattle.bc_io.specs.Growing.{GrewBy, Holds, IsFinished, IsNew, has_failed}
+use Rattle.bc_io.specs.Growing.{GrewBy, WasPut, IsFinished, IsNew, has_failed}
 use Rattle.bc_io.proofs.Taken.{put_none, put_past}
 
 -- two pieces
@@ -11,7 +11,7 @@ pub behind : {K : Type 0} {held : K → Option (List ℕ)} {faults : K → ℕ} 
 behind {held = held} {faults = faults} {c = c} {xs = xs} {ys = ys} e f = record {
   sink = f.sink ∙ e.sink;
   buffer = f.buffer ∙ e.buffer;
-  put = λ start before done h. subst (Holds held faults start before c) (append_assoc done xs ys) (f.put start before (done ++ xs) (e.put start before done h));
+  put = λ start before done h. subst (WasPut held faults start before c) (append_assoc done xs ys) (f.put start before (done ++ xs) (e.put start before done h));
   stays = λ t. let p = e.stays t in let q = f.stays p.0 in (q.0, q.1 ∙ p.1, q.2 ∙ p.2);
 }
 
@@ -20,7 +20,7 @@ pub same_piece : {K : Type 0} {held : K → Option (List ℕ)} {faults : K → �
 same_piece {held = held} {faults = faults} {a = a} {b = b} e f = subst (GrewBy held faults a b) e f
 
 pub no_piece : {K : Type 0} (held : K → Option (List ℕ)) (faults : K → ℕ) (a : Pen K) → GrewBy held faults a a []
-no_piece held faults a = record { sink = refl; buffer = refl; put = λ start before done h. subst (Holds held faults start before a) (sym (append-nil done)) h; stays = λ t. (t, refl, refl) }
+no_piece held faults a = record { sink = refl; buffer = refl; put = λ start before done h. subst (WasPut held faults start before a) (sym (append-nil done)) h; stays = λ t. (t, refl, refl) }
 
 -- once a write has failed any piece may be said to be put: it is lost
 pub lost : {K : Type 0} {held : K → Option (List ℕ)} {faults : K → ℕ} {a b : Pen K} {xs : List ℕ} (ys : List ℕ) → has_failed a ≡ true → GrewBy held faults a b xs → GrewBy held faults a b ys

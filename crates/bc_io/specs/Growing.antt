@@ -16,18 +16,18 @@ pub record IsNew {K : Type 0} (p : Pen K) (out : K) : Type 0 where
   pub whole : p.failed ≡ false
 
 -- this text was put, since the sink held `start` and had `before` faults
-abbrev pub Holds : {K : Type 0} → (K → Option (List ℕ)) → (K → ℕ) → Option (List ℕ) → ℕ → Pen K → List ℕ → Type 0
-Holds held faults start before p text = HasPut start before (held p.out.now) (faults p.out.now) (take p.len p.buf.now) p.failed text
+abbrev pub WasPut : {K : Type 0} → (K → Option (List ℕ)) → (K → ℕ) → Option (List ℕ) → ℕ → Pen K → List ℕ → Type 0
+WasPut held faults start before p text = HasPut start before (held p.out.now) (faults p.out.now) (take p.len p.buf.now) p.failed text
 
 -- the piece goes behind what was put before, through the same buffer to the same sink; once a write has failed the sink gets
 -- nothing more
 pub record GrewBy {K : Type 0} (held : K → Option (List ℕ)) (faults : K → ℕ) (old new : Pen K) (piece : List ℕ) : Type 0 where
   pub sink : new.out.ghost_name ≡ old.out.ghost_name
   pub buffer : new.buf.ghost_name ≡ old.buf.ghost_name
-  pub put : (start : Option (List ℕ)) (before : ℕ) (done : List ℕ) → Holds held faults start before old done → Holds held faults start before new (done ++ piece)
+  pub put : (start : Option (List ℕ)) (before : ℕ) (done : List ℕ) → WasPut held faults start before old done → WasPut held faults start before new (done ++ piece)
   pub stays : has_failed old ≡ true → (has_failed new ≡ true) × (held new.out.now ≡ held old.out.now) × (faults new.out.now ≡ faults old.out.now)
 
 -- all that was put is in the sink; where a write failed a front of it is
 pub record IsFinished {K T E : Type 0} (held : K → Option (List ℕ)) (faults : K → ℕ) (old new : Pen K) (result : Result T E) : Type 0 where
-  pub put : (start : Option (List ℕ)) (before : ℕ) (done : List ℕ) → Holds held faults start before old done
+  pub put : (start : Option (List ℕ)) (before : ℕ) (done : List ℕ) → WasPut held faults start before old done
       → Puts start (held new.out.now) result done × HasCause before (faults new.out.now) result

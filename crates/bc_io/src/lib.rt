@@ -17,6 +17,3 @@ pub use std_sink::StdSink;
 pub use std_source::StdSource;
 pub use traits::{Failed, Sink, Source};
 pub use whole::{ReadEnd, put_all, read_all};
-
-#[cfg(test)]
-mod tests;

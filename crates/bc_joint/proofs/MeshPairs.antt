@@ -17,8 +17,8 @@ use Rattle.bc_parity.specs.Faces.{is_odd3_at}
 use Rattle.bc_natural.specs.Planes.{Planes, planes_of, ArePlanes, ArePlanesFew, plane_mask}
 use Rattle.bc_natural.proofs.Masks.{mask_below}
 use Rattle.bc_natural.proofs.PlaneTables.{off_planes, off_faces, one_plane_table}
-use Rattle.bc_cells.specs.Cells.{AreCells, IsCell}
-use Rattle.bc_classify.specs.CellSplits.{Cell3, marked3, OddCellLaw}
+use Rattle.bc_cells.specs.Cells.{AreCells, IsCell, Cell3}
+use Rattle.bc_classify.specs.CellSplits.{marked3, OddCellLaw}
 use Rattle.bc_classify.specs.JointMasks.{JointCellLaw}
 use Rattle.bc_combine.specs.declared.op.Op.{Op}
 use Rattle.bc_combine.specs.Combined.{is_true_of, is_chosen3}

@@ -35,9 +35,9 @@ found [] = Nothing
 found (b ∷ bs) = if is_stop b then Nothing else (if begins_word b bs then Item (capital b) (blanks bs + 1) (length_behind bs) else Bad)
 
 -- what was found is within the bytes
-abbrev pub IsWithin : Front → List ℕ → Type 0
-IsWithin (Item letter k n) bytes = (1 ≤ n) × (k + n ≤ length bytes)
-IsWithin _ bytes = Unit {0}
+abbrev pub FitsIn : Front → List ℕ → Type 0
+FitsIn (Item letter k n) bytes = (1 ≤ n) × (k + n ≤ length bytes)
+FitsIn _ bytes = Unit {0}
 
 -- a word with its places: its line, its number there, and where its number begins in the line
 pub record AWord : Type 0 where

@@ -48,10 +48,10 @@ found [] = Nothing
 found (b ∷ bs) = seen_as (piece b bs) b
 
 -- what was found is within the bytes
-abbrev pub IsWithin : Front → List ℕ → Type 0
-IsWithin Nothing bytes = Unit {0}
-IsWithin Bad bytes = 1 ≤ length bytes
-IsWithin (Item k n) bytes = (1 ≤ n) × (n ≤ length bytes)
+abbrev pub FitsIn : Front → List ℕ → Type 0
+FitsIn Nothing bytes = Unit {0}
+FitsIn Bad bytes = 1 ≤ length bytes
+FitsIn (Item k n) bytes = (1 ≤ n) × (n ≤ length bytes)
 
 -- a token with its places: its line, its number in the text, and where it begins there
 pub record AToken : Type 0 where

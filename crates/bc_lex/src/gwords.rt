@@ -2,7 +2,7 @@ ghost use Rattle.std.specs.Prelude.{◌≡◌, ◌-◌, ◌<◌, ◌≤◌, ◌^
 ghost use Rattle.bc_num.specs.Tokens.{is_letter};
 ghost use Rattle.bc_num.specs.Words.{is_line_blank, is_ignored, capital, blanks};
 ghost use Rattle.bc_lex.specs.Lines.{line};
-ghost use Rattle.bc_lex.specs.GWords.{gap, found, IsWithin, line_start, next_word, after_word, seen};
+ghost use Rattle.bc_lex.specs.GWords.{gap, found, FitsIn, line_start, next_word, after_word, seen};
 
 use crate::lines::Line;
 use bc_num::number_len;
@@ -133,7 +133,7 @@ fn count_gap(bytes: &[u8]) -> usize
 
 fn front_of(bytes: &[u8]) -> Front
     ensures value { result ≡ found bytes.now }
-    ensures within { IsWithin result bytes.now }
+    ensures within { FitsIn result bytes.now }
 {
     let [first, rest @ ..] = bytes else {
         return Front::Nothing;

@@ -13,6 +13,3 @@ pub use gwords::{BadAt, GWord, GWords};
 pub use lines::{Line, Lines};
 pub use tokens::{Kind, Token, Tokens};
 pub use words::{Word, Words};
-
-#[cfg(test)]
-mod tests;

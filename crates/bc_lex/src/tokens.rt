@@ -1,6 +1,6 @@
 ghost use Rattle.std.specs.Prelude.{◌≡◌, ◌-◌, ◌<◌, ◌≤◌, ◌+◌, ◌^◌, length, IfOk, IfSome};
 ghost use Rattle.bc_num.specs.Tokens.{is_digit, is_word, is_mark, is_blank, front};
-ghost use Rattle.bc_lex.specs.Tokens.{free_length, line_ends, found, IsWithin, next_token, after_token, text_start, seen};
+ghost use Rattle.bc_lex.specs.Tokens.{free_length, line_ends, found, FitsIn, next_token, after_token, text_start, seen};
 
 use crate::BadAt;
 use crate::gwords::letter_at;
@@ -177,7 +177,7 @@ fn count_line_ends(bytes: &[u8]) -> u32
 
 fn front_of(bytes: &[u8]) -> Front
     ensures value { result ≡ found bytes.now }
-    ensures within { IsWithin result bytes.now }
+    ensures within { FitsIn result bytes.now }
 {
     let [first, rest @ ..] = bytes else {
         return Front::Nothing;

@@ -24,6 +24,3 @@ pub use gather_planes::planes;
 pub use limits::{MOST_DISCS, MOST_LINES, MOST_PLANES};
 pub use nat_fault::NatFault;
 pub use plane_table::PlaneTable;
-
-#[cfg(test)]
-mod tests;

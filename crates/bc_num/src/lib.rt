@@ -38,6 +38,3 @@ pub use radius::reach;
 pub use v2::V2;
 pub use v3::V3;
 pub use whole::{NumFault, number_len, read_digits, read_whole};
-
-#[cfg(test)]
-mod tests;

@@ -13,6 +13,3 @@ mod vertices;
 
 pub use fault::OffFault;
 pub use read::read_off;
-
-#[cfg(test)]
-mod tests;

@@ -11,7 +11,7 @@ use Rattle.bc_lex.specs.Left.{lines_left, line_then}
 use Rattle.bc_lex.specs.Order.{is_one_line, LineStands, IsLineEnd}
 use Rattle.bc_lex.proofs.Nexts.{next_line_is_first}
 use Rattle.bc_lex.proofs.Orders.{lines_stand_in_order}
-use Rattle.bc_pair.specs.Parts.{is_separator, HasNoSeparator, EndsLine, IsBehind, ArePartsOf}
+use Rattle.bc_pair.specs.Parts.{is_separator, HasNoSeparator, EndsLine, IsBehindLine, ArePartsOf}
 
 -- ---- the lines of two texts, one behind the other
 
@@ -158,7 +158,7 @@ module _ (p : LinePlace) (l : ALine) (came : Came p.text p.at p.number) (h : nex
   pub start_within : p.at ≤ length p.text
   start_within = came.within
 
-  behind_end : (end rest : List ℕ) → IsLineEnd end rest → IsBehind (end ++ rest) rest
+  behind_end : (end rest : List ℕ) → IsLineEnd end rest → IsBehindLine (end ++ rest) rest
   behind_end end rest (inl e) = inr (ap (λ zs. zs ++ rest) e)
   behind_end end rest (inr e) = inl (ap (λ zs. zs ++ rest) e.0 ∙ e.1, e.1)
 

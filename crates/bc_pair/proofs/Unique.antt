@@ -8,7 +8,7 @@ use Rattle.std.proofs.lemmas.List.Elements.{All-head, All-tail}
 use Rattle.std.proofs.lemmas.Slice.Eq.{bytes_eq-Decides}
 use Rattle.std.proofs.lemmas.Bool.{eqb-true}
 use Rattle.bc_num.specs.Lines.{lines, put_before, is_line_end}
-use Rattle.bc_pair.specs.Parts.{is_separator, EndsLine, IsBehind, Two, ArePartsOf, OneSplit, NoSplit}
+use Rattle.bc_pair.specs.Parts.{is_separator, EndsLine, IsBehindLine, Two, ArePartsOf, OneSplit, NoSplit}
 use Rattle.bc_pair.proofs.Cutting.{by_end, at_end, no_end, some_line, lines_joined}
 
 either : (a b : Bool) → (a || b) ≡ true → (a ≡ true) ⊎ (b ≡ true)
@@ -25,7 +25,7 @@ two_ways l h =
 -- ---- lines
 
 -- a separator and what is behind it
-separator_lines : (l behind second : List ℕ) → is_separator l ≡ true → IsBehind behind second → lines (l ++ behind) ≡ l ∷ lines second
+separator_lines : (l behind second : List ℕ) → is_separator l ≡ true → IsBehindLine behind second → lines (l ++ behind) ≡ l ∷ lines second
 separator_lines l behind second h (inl (e, f)) =
     elim (two_ways l h) [
       | inl k ↦ subst (λ b. lines (l ++ b) ≡ l ∷ lines second) (sym e) (subst (λ s. lines (l ++ []) ≡ l ∷ lines s) (sym f) (subst (λ m. lines (m ++ []) ≡ m ∷ lines []) (sym k) refl))
@@ -83,7 +83,7 @@ first_same test (a ∷ us) (c ∷ cs) bs ds s t h k f g e =
     let r = first_same test us cs bs ds s t (All-tail (λ x. test x ≡ false) a us h) (All-tail (λ x. test x ≡ false) c cs k) f g rest in
     (ap (λ z. z ∷ us) is ∙ ap (λ zs. c ∷ zs) r.0, r.1)
 
-behind_same : (b c s t : List ℕ) → b ≡ c → IsBehind b s → IsBehind c t → s ≡ t
+behind_same : (b c s t : List ℕ) → b ≡ c → IsBehindLine b s → IsBehindLine c t → s ≡ t
 behind_same b c s t e (inl h) (inl k) = h.1 ∙ sym k.1
 behind_same b c s t e (inl h) (inr k) = let q : [] ≡ 10 ∷ t = sym h.0 ∙ e ∙ k in cc
 behind_same b c s t e (inr h) (inl k) = let q : 10 ∷ s ≡ [] = sym h ∙ e ∙ k.0 in cc

@@ -18,8 +18,8 @@ abbrev pub EndsLine : List ℕ → Type 0
 EndsLine bytes = (bytes ≡ []) ⊎ ((front : List ℕ) × (bytes ≡ front ++ 10 ∷ []))
 
 -- what stands behind a line is an LF and the rest, or nothing at the end of the text
-abbrev pub IsBehind : List ℕ → List ℕ → Type 0
-IsBehind bytes rest = ((bytes ≡ []) × (rest ≡ [])) ⊎ (bytes ≡ 10 ∷ rest)
+abbrev pub IsBehindLine : List ℕ → List ℕ → Type 0
+IsBehindLine bytes rest = ((bytes ≡ []) × (rest ≡ [])) ⊎ (bytes ≡ 10 ∷ rest)
 
 -- two parts by their bytes, and the number of the line between them
 pub record Two : Type 0 where
@@ -38,7 +38,7 @@ pub record ArePartsOf (text : List ℕ) (p : Two) : Type 0 where
   -- the separator is a line, and the first of its kind
   pub begins : EndsLine p.first
   pub separates : is_separator separator ≡ true
-  pub ends : IsBehind behind p.second
+  pub ends : IsBehindLine behind p.second
   pub none_before : HasNoSeparator p.first
   pub number : p.line ≡ length (lines p.first) + 1
 

@@ -6,6 +6,3 @@ pub mod laws;
 mod split;
 
 pub use split::{NoPart, Parts, split_parts};
-
-#[cfg(test)]
-mod tests;

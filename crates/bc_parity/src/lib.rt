@@ -13,6 +13,3 @@ mod queries;
 
 pub use face_queries::{odd3, on_edge3};
 pub use queries::{odd2, on_edge2, straight_odd2};
-
-#[cfg(test)]
-mod tests;

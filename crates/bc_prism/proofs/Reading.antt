@@ -7,7 +7,7 @@ use Rattle.bc_prism.specs.declared.row.Kind.TheVariants as kinds
 use Rattle.bc_prism.specs.declared.layer.Section.{Section}
 use Rattle.bc_prism.specs.declared.sections.Open.{Open}
 use Rattle.bc_prism.specs.Sections.{ASection, section, part, next_from, next_layer, with_section, sections_in, first_fault, fault_at, or_else, layers_behind}
-use Rattle.bc_prism.specs.Reading.{EndsIn, closed, closes, begins, layers_so_far, pending, Takes}
+use Rattle.bc_prism.specs.Reading.{EndsIn, closed, closes, begins, layers_so_far, pending, TakesRow}
 
 -- ---- one row
 
@@ -56,7 +56,7 @@ pub record Stepped (text : List ℕ) (old new : List Section) (begun o : Option 
   pub ends : EndsIn o r.behind text
 
 pub stepped : (text : List ℕ) (old new : List Section) (begun o : Option Open) (r : Row) (rs : List Row)
-    → Takes (Ok o) (layers_so_far old begun) old new begun text r → r.from ≤ r.behind → r.behind ≤ length text → EndsIn begun r.from text → Stepped text old new begun o r rs
+    → TakesRow (Ok o) (layers_so_far old begun) old new begun text r → r.from ≤ r.behind → r.behind ≤ length text → EndsIn begun r.from text → Stepped text old new begun o r rs
 stepped text old new begun o r rs t h k e = record {
   fault = ap (λ o. first_fault (layers_so_far new o) rs) t.2 ∙ ap (λ n. first_fault n rs) (count-step text old new begun r.from r.behind r.kind t.1) ∙ sym (fault-on (layers_so_far old begun) r rs t.0);
   found = ap (λ o. map section new ++ pending o text rs) t.2

@@ -50,10 +50,10 @@ begins kinds.Other begun behind = begun
 begins kinds.Bad begun behind = begun
 
 -- a row was taken: it is not at fault, and what it closes was added; or its fault is answered
-abbrev pub Takes : Result (Option Open) LayerFault → ℕ → List Section → List Section → Option Open → List ℕ → Row → Type 0
-Takes (Ok o) n old new begun text r = (fault_at n r.number r.kind ≡ None) × (map section new ≡ map section old ++ closes r.kind begun text r.from) × (o ≡ begins r.kind begun r.behind)
-Takes (Err faults.Memory) n old new begun text r = Unit {0}
-Takes (Err f) n old new begun text r = fault_at n r.number r.kind ≡ Some f
+abbrev pub TakesRow : Result (Option Open) LayerFault → ℕ → List Section → List Section → Option Open → List ℕ → Row → Type 0
+TakesRow (Ok o) n old new begun text r = (fault_at n r.number r.kind ≡ None) × (map section new ≡ map section old ++ closes r.kind begun text r.from) × (o ≡ begins r.kind begun r.behind)
+TakesRow (Err faults.Memory) n old new begun text r = Unit {0}
+TakesRow (Err f) n old new begun text r = fault_at n r.number r.kind ≡ Some f
 
 -- the sections of a text without a line at fault, or its first fault
 abbrev pub ReadsLines : Result (List Section) LayerFault → List ℕ → Type 0

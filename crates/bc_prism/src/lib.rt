@@ -14,6 +14,3 @@ pub use fault::LayerFault;
 pub use layer::{Layer, Section};
 pub use sections::read_layers;
 pub use write::prisms;
-
-#[cfg(test)]
-mod tests;

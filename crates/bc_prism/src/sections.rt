@@ -2,7 +2,7 @@
 ghost use Rattle.std.specs.Prelude.{◌≡◌, ◌≤◌, ◌^◌, ◌++◌, ◌∷◌, [], length, map, IfOk, OnOk, OnErr};
 ghost use Rattle.bc_prism.specs.declared.fault.LayerFault.TheVariants as faults;
 ghost use Rattle.bc_prism.specs.Sections.{section, part, Reads};
-ghost use Rattle.bc_prism.specs.Reading.{EndsIn, closed, layers_so_far, Takes, ReadsLines};
+ghost use Rattle.bc_prism.specs.Reading.{EndsIn, closed, layers_so_far, TakesRow, ReadsLines};
 
 use crate::overlaps::find_overlap;
 use crate::row::{Kind, Row, next_row};
@@ -63,7 +63,7 @@ fn take_row<'a>(
     row: Row,
 ) -> Result<Option<Open>, LayerFault>
     requires ends { EndsIn begun row.from text.now }
-    ensures takes { Takes result (layers_so_far made.old begun) made.old made.new begun text.now row }
+    ensures takes { TakesRow result (layers_so_far made.old begun) made.old made.new begun text.now row }
     ensures few { IfOk result (λ o. layers_so_far made.old begun ≤ 64 → layers_so_far made.new o ≤ 64) }
 {
     match row.kind {

@@ -19,7 +19,7 @@ use Rattle.bc_read.specs.declared.part.Form.TheVariants.{Slab, Strip, Disc, Bloc
 -- ---- the table of leaves
 
 -- a way to write a leaf: its form, and its numbers in the order in which its tokens say them
-pub record Row : Type 0 where
+pub record LeafRow : Type 0 where
   pub form : Form
   pub numbers : List ℤ
 
@@ -36,7 +36,7 @@ strip_numbers o u n =
     ∷ negsuc 8191 ∷ pos 0 ∷ pos 0 ∷ pos 16384 ∷ pos 8192 ∷ []
 
 -- the long way to write a leaf
-abbrev pub row : Leaf → Row
+abbrev pub row : Leaf → LeafRow
 row (leaves.Slab f) = record { form = Slab; numbers = slab_numbers f.o (u_of f.n) (v_of f.n) f.n }
 row (leaves.Strip f) = record { form = Strip; numbers = strip_numbers f.o f.u (normal_of f.u) }
 row (leaves.Disc d) = record { form = Disc; numbers = d.c.x ∷ d.c.y ∷ pos 0 ∷ d.r2 ∷ [] }
@@ -58,7 +58,7 @@ abbrev pub box2_numbers : V2 → V2 → List ℤ
 box2_numbers c a = c.x ∷ c.y ∷ pos 0 ∷ a.x ∷ a.y ∷ []
 
 -- the short way to write an axis leaf, as a block or tile; of every other leaf the long way again
-abbrev pub short_row : Leaf → Row
+abbrev pub short_row : Leaf → LeafRow
 short_row (leaves.Slab f) = record { form = Block; numbers = box3_numbers (corner_of3 f.o f.n) (sides_of3 f.n) }
 short_row (leaves.Strip f) = record { form = Tile; numbers = box2_numbers (corner_of2 f.o (normal_of f.u)) (sides_of2 (normal_of f.u)) }
 short_row (leaves.Disc d) = row (leaves.Disc d)

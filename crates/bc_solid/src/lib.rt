@@ -31,6 +31,3 @@ pub use raw_contours::RawContours;
 pub use raw_mesh::RawMesh;
 pub use solid::Solid;
 pub use squares::square_of;
-
-#[cfg(test)]
-mod tests;

@@ -9,6 +9,3 @@ mod pieces;
 
 pub use contour::{MOST_CONTOUR, trial_contour};
 pub use off::{MOST_OFF, trial_off};
-
-#[cfg(test)]
-mod tests;

@@ -2,11 +2,10 @@ use Rattle.std.proofs.Common.{◌≡◌, true, false, List, map, refl, sym, ap, 
 use Rattle.bc_num.specs.Sizes.{IsLargePoint3}
 use Rattle.bc_space.specs.Planes.{plane_side}
 use Rattle.bc_space.specs.Solid.{walls3, met3}
-use Rattle.bc_cells.specs.Cells.{AreCells}
+use Rattle.bc_cells.specs.Cells.{AreCells, Cell3}
 use Rattle.bc_tree.specs.Shape.{shape}
 use Rattle.bc_audit.specs.SlabPlanes.{ArePlanesWith}
 use Rattle.bc_audit.specs.Told.{leaf_told, holds_by}
-use Rattle.bc_audit.specs.Compared.{Cell3}
 use Rattle.bc_audit.proofs.Verdicts.{of_box, verdict_of}
 use Rattle.bc_audit.proofs.verdict.audit.Goals as goal
 

@@ -3,7 +3,7 @@ use Rattle.std.specs.Prelude.{slice_get}
 use Rattle.std.proofs.lemmas.Option.{get_or_from_slice_get}
 use borrow.Author.Count.{below_more}
 use Rattle.bc_parity.specs.Faces.{is_odd3_at}
-use Rattle.bc_audit.specs.Compared.{Cell3}
+use Rattle.bc_cells.specs.Cells.{Cell3}
 use Rattle.bc_audit.proofs.Columns.{item_at}
 use Rattle.bc_audit.proofs.Verdicts.{tests_apart, tests_same}
 use Rattle.bc_audit.proofs.verdict.compare.Goals as goal

@@ -1,7 +1,7 @@
 use Rattle.std.proofs.Common.{◌≡◌, ℕ, ◌<◌, Some, false, get_or}
 use Rattle.std.specs.Prelude.{slice_get}
 use Rattle.bc_parity.specs.Faces.{is_odd3_at}
-use Rattle.bc_audit.specs.Compared.{Cell3}
+use Rattle.bc_cells.specs.Cells.{Cell3}
 use Rattle.bc_audit.proofs.verdict.compare.Given as goal
 
 abbrev pub invariant-loop-i : goal.invariant-loop-i

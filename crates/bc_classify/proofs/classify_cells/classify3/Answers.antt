@@ -1,6 +1,6 @@
 use Rattle.std.proofs.Common.{◌≡◌, ◌<◌, length, get_or, ap, ◌∙◌, sym, subst, arith}
 use Rattle.bc_num.specs.Sizes.{IsLargePoint3}
-use Rattle.bc_classify.specs.CellSplits.{Cell3}
+use Rattle.bc_cells.specs.Cells.{Cell3}
 use Rattle.bc_classify.proofs.CellWalks.{cell_inside, cell_outside}
 use Rattle.bc_classify.proofs.classify_cells.classify3.Goals as goal
 use Rattle.bc_classify.proofs.classify_cells.classify3.Goals.{then-odd3+in_ok-push, else-odd3+in_ok-push-2}
