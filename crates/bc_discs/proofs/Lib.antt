@@ -1,8 +1,11 @@
+pub mod Anys
 pub mod Between
 pub mod Corners
 pub mod Drops
+pub mod Firsts
 pub mod Found
 pub mod Geometry
+pub mod KeptSets
 pub mod Loops
 pub mod Regions
 pub mod SamplesWeighted
@@ -12,4 +15,5 @@ pub mod SeenWalk
 pub mod SeenWeights
 pub mod Shown
 pub mod Sized
+pub mod Thinned
 pub mod ThreeCorners

@@ -1,7 +1,11 @@
 pub mod Candidates
 pub mod Corners
+pub mod Firsts
 pub mod Laws
+pub mod Lean
 pub mod Rules
 pub mod Samples
+pub mod Sieves
 pub mod Slots
 pub mod Steps
+pub mod Thinning
