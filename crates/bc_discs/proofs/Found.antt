@@ -25,7 +25,7 @@ use Rattle.bc_discs.specs.declared.sieve.Sieve.{Sieve}
 use Rattle.bc_discs.specs.declared.sieve.Sieve.TheVariants.{Coarse, Fine}
 use Rattle.bc_discs.specs.Rules.{walls_of, choices_of}
 use Rattle.bc_discs.specs.Samples.{IsSeen}
-use Rattle.bc_discs.specs.Candidates.{Region, mask_with, IsCandidateOf, Precedes, AreCandidatesOf}
+use Rattle.bc_discs.specs.Candidates.{Region, Keeping, mask_with, IsCandidateOf, Precedes, AreCandidatesOf}
 use Rattle.bc_discs.specs.Laws.{IsRegion, IsPointOfRegion}
 use Rattle.bc_discs.specs.Sieves.{Fires, keeps, AreSets}
 use Rattle.bc_discs.specs.Steps.{IsOfRegion, AreOfRegion}
@@ -128,24 +128,25 @@ module _ (s : Sieve) (b : Box2) (ls : List Line2) (ds : List Disc2) where
         seen = shown set (get_or seen set None) h (slice_get-get_or seen set None (omega arith));
       }
 
-  -- ---- the regions
+-- ---- the regions
+module _ (K : Keeping) (b : Box2) (ls : List Line2) (ds : List Disc2) where
   module _ (regions : List Region) where
     -- the candidates of the first n regions
     pub record AreOfRegions (n : ℕ) (candidates : List Candidate) : Type 0 where
-      pub each : All (IsCandidateOf (keeps s) b ls ds regions) candidates
+      pub each : All (IsCandidateOf K b ls ds regions) candidates
       pub before : All (λ c. c.region < n) candidates
-      pub every : (r : ℕ) (region : Region) (set : ℕ) → r < n → slice_get regions r ≡ Some region → set < 2 ^ length ds → keeps s b ls ds region set → Any (λ c. (c.region ≡ r) × (c.mask ≡ mask_with ls region set)) candidates
+      pub every : (r : ℕ) (region : Region) (set : ℕ) → r < n → slice_get regions r ≡ Some region → set < 2 ^ length ds → K b ls ds region set → Any (λ c. (c.region ≡ r) × (c.mask ≡ mask_with ls region set)) candidates
       pub order : AllPairs Precedes candidates
 
-    candidate_of : (n : ℕ) (region : Region) → slice_get regions n ≡ Some region → (c : Candidate) → IsOfRegion (keeps s) b ls ds n region c → IsCandidateOf (keeps s) b ls ds regions c
+    candidate_of : (n : ℕ) (region : Region) → slice_get regions n ≡ Some region → (c : Candidate) → IsOfRegion K b ls ds n region c → IsCandidateOf K b ls ds regions c
     candidate_of n region at c o = record { region = region; at = ap (λ i. slice_get regions i) o.at ∙ at; set = o.set; below = o.below; of_mask = o.of_mask; kept = o.kept; seen = o.seen }
 
-    pub regions_more : (n : ℕ) (found more : List Candidate) (region : Region) → slice_get regions n ≡ Some region → AreOfRegions n found → AreOfRegion (keeps s) b ls ds n region more → AreOfRegions (n + 1) (found ++ more)
+    pub regions_more : (n : ℕ) (found more : List Candidate) (region : Region) → slice_get regions n ≡ Some region → AreOfRegions n found → AreOfRegion K b ls ds n region more → AreOfRegions (n + 1) (found ++ more)
     regions_more n found more region at old new = record {
-      each = All-append (IsCandidateOf (keeps s) b ls ds regions) found more old.each (All-weaker (IsOfRegion (keeps s) b ls ds n region) (IsCandidateOf (keeps s) b ls ds regions) (candidate_of n region at) more new.each);
+      each = All-append (IsCandidateOf K b ls ds regions) found more old.each (All-weaker (IsOfRegion K b ls ds n region) (IsCandidateOf K b ls ds regions) (candidate_of n region at) more new.each);
       before = All-append (λ (c : Candidate). c.region < n + 1) found more
           (All-weaker (λ (c : Candidate). c.region < n) (λ (c : Candidate). c.region < n + 1) (λ c l. omega arith) found old.before)
-          (All-weaker (IsOfRegion (keeps s) b ls ds n region) (λ (c : Candidate). c.region < n + 1) (λ c o. let e = o.at in omega arith) more new.each);
+          (All-weaker (IsOfRegion K b ls ds n region) (λ (c : Candidate). c.region < n + 1) (λ c o. let e = o.at in omega arith) more new.each);
       every = λ r other set l is m k. elim (last_or r n l) [
         | inl h ↦ any_left (λ c. (c.region ≡ r) × (c.mask ≡ mask_with ls other set)) found more (old.every r other set h is m k)
         | inr e ↦
@@ -153,10 +154,10 @@ module _ (s : Sieve) (b : Box2) (ls : List Line2) (ds : List Disc2) where
             any_right (λ c. (c.region ≡ r) × (c.mask ≡ mask_with ls other set)) found more
             (subst (λ i. Any (λ c. (c.region ≡ i) × (c.mask ≡ mask_with ls other set)) more) (sym e)
             (subst (λ (o : Region). Any (λ c. (c.region ≡ n) × (c.mask ≡ mask_with ls o set)) more) (sym same)
-            (new.every set m (subst (λ (o : Region). keeps s b ls ds o set) same k))))
+            (new.every set m (subst (λ (o : Region). K b ls ds o set) same k))))
       ];
       order = all_pairs_append Precedes found more old.order
-          (all_pairs_then (IsOfRegion (keeps s) b ls ds n region) (λ c d. c.mask < d.mask) Precedes more new.each new.order (λ c d o p l. inr (o.at ∙ sym p.at, l)))
+          (all_pairs_then (IsOfRegion K b ls ds n region) (λ c d. c.mask < d.mask) Precedes more new.each new.order (λ c d o p l. inr (o.at ∙ sym p.at, l)))
           (λ i j d l m. inl (first_then (get_or found i d) (get_or more j d) (old.before i d l) (new.each j d m).at));
     }
       where
@@ -168,31 +169,32 @@ module _ (s : Sieve) (b : Box2) (ls : List Line2) (ds : List Disc2) where
       region_at : (r : ℕ) (region : Region) → slice_get regions r ≡ Some region → IsRegion b ls region
       region_at r region at = subst (λ (o : Region). IsRegion b ls o) (get_or_from_slice_get regions r region region at) (cells.each r region (slice_get_within regions r region at))
 
-      differ : (c d : Candidate) → IsCandidateOf (keeps s) b ls ds regions c → IsCandidateOf (keeps s) b ls ds regions d → Precedes c d → c.mask ≢ d.mask
+      differ : (c d : Candidate) → IsCandidateOf K b ls ds regions c → IsCandidateOf K b ls ds regions d → Precedes c d → c.mask ≢ d.mask
       differ c d x y (inl l) e =
           let e2 = low_same (length ls) x.region.mask y.region.mask x.set y.set (mask_low b ls x.region (region_at c.region x.region x.at)) (mask_low b ls y.region (region_at d.region y.region y.at)) (sym x.of_mask ∙ e ∙ y.of_mask) in
           let i = cells.only c.region d.region x.region y.region x.at y.at e2 in
           omega arith
       differ c d x y (inr h) e = let l = h.1 in omega arith
 
-      within : (c : Candidate) → IsCandidateOf (keeps s) b ls ds regions c → c.mask < 2 ^ (length ls + length ds)
+      within : (c : Candidate) → IsCandidateOf K b ls ds regions c → c.mask < 2 ^ (length ls + length ds)
       within c x =
           let h = high_lt (length ls) (length ds) x.region.mask x.set (mask_low b ls x.region (region_at c.region x.region x.at)) x.below in
           let e = x.of_mask in
           omega arith
 
-      pub are_candidates : (n : ℕ) (found : List Candidate) → length regions ≤ n → AreOfRegions n found → AreCandidatesOf (keeps s) b ls ds regions found
-      are_candidates n found over are = record {
+      -- where the set of each free point is kept
+      pub are_candidates : ((region : Region) (p : P2) → IsRegion b ls region → IsPointOfRegion b ls region p → All (λ d. disc_side d p ≢ On) ds → K b ls ds region (mask_of disc_side ds p)) → (n : ℕ) (found : List Candidate) → length regions ≤ n → AreOfRegions n found → AreCandidatesOf K b ls ds regions found
+      are_candidates free_kept n found over are = record {
         each = are.each;
         every = λ r region set at m k. let l = slice_get_within regions r region at in are.every r region set (omega arith) at m k;
         order = are.order;
-        once = all_pairs_then (IsCandidateOf (keeps s) b ls ds regions) Precedes (λ c d. c.mask ≢ d.mask) found are.each are.order differ;
-        within = All-weaker (IsCandidateOf (keeps s) b ls ds regions) (λ (c : Candidate). c.mask < 2 ^ (length ls + length ds)) within found are.each;
+        once = all_pairs_then (IsCandidateOf K b ls ds regions) Precedes (λ c d. c.mask ≢ d.mask) found are.each are.order differ;
+        within = All-weaker (IsCandidateOf K b ls ds regions) (λ (c : Candidate). c.mask < 2 ^ (length ls + length ds)) within found are.each;
         free = λ p free off.
             let o = cells.some p free in
             let at : slice_get regions o.0 ≡ Some o.1 = slice_get-get_or regions o.0 o.1 o.2 ∙ ap Some o.3 in
             let cell = region_at o.0 o.1 at in
-            let kept = keeps_free s b ls ds o.1 p cell (record { free = free; of_mask = sym o.4 }) off in
+            let kept = free_kept o.1 p cell (record { free = free; of_mask = sym o.4 }) off in
             let l = slice_get_within regions o.0 o.1 at in
             let a = are.every o.0 o.1 (mask_of disc_side ds p) (omega arith) at (mask_below disc_side ds p) kept in
             (a.0, a.1, a.2, a.3, a.4.1 ∙ ap (λ m. m + 2 ^ length ls * mask_of disc_side ds p) o.4);
