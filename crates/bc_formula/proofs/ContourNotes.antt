@@ -34,8 +34,9 @@ use Rattle.bc_cells.specs.Cells.{AreCells, HasCorners}
 use Rattle.bc_cells.proofs.Masks.{mask_alike}
 use Rattle.bc_discs.specs.declared.candidate.Candidate.{Candidate}
 use Rattle.bc_discs.specs.Samples.{IsSample, IsSeen}
-use Rattle.bc_discs.specs.Candidates.{Region, IsKept, mask_with, IsCandidate, AreCandidates}
+use Rattle.bc_discs.specs.Candidates.{Region, Keeping, IsKept, mask_with, IsCandidateOf, IsCandidate, AreCandidatesOf}
 use Rattle.bc_discs.specs.Laws.{IsRegion}
+use Rattle.bc_discs.specs.Thinning.{IsLean}
 use Rattle.bc_discs.proofs.Between.{sample_law}
 use Rattle.bc_discs.proofs.Shown.{seen_law}
 use Rattle.bc_classify.specs.declared.split2.Marked2.{Marked2}
@@ -51,14 +52,17 @@ use Rattle.bc_notes.specs.Nodes.{is_half_space}
 use Rattle.bc_formula.specs.ContourGeometry.{contours, leaves_of, strip_leaf}
 use Rattle.bc_discs.proofs.ThreeCorners.{some_sample}
 use Rattle.bc_notes.specs.declared.shown.Shown.{Shown}
-use Rattle.bc_formula.specs.ContourPoints.{IsSampleOfRegion, IsCandidateMask, HasArc}
+use Rattle.bc_formula.specs.ContourPoints.{IsSampleOfRegion, keeping_of, IsMaskOf, HasArc}
+use Rattle.bc_formula.specs.declared.masks.Masks.{Masks}
+use Rattle.bc_formula.specs.declared.masks.Masks.TheVariants.{Whole, Lean}
+use Rattle.bc_formula.specs.Divisions.{mask_kind}
 use Rattle.bc_formula.specs.Notes.{IsFreePoint}
 use Rattle.bc_formula.specs.Shown.{masks_of, IsShownAt, AreShown, AreShownParts}
 use Rattle.bc_formula.specs.ContourDivision.{shown2}
 use Rattle.bc_formula.proofs.Mapped.{at_place, contains_at}
 use Rattle.bc_formula.proofs.TwoLists.{any_contained}
 use Rattle.bc_formula.proofs.ContourMasks.{above_walls}
-use Rattle.bc_formula.proofs.SameRegions.{sample_moves, kept_moves}
+use Rattle.bc_formula.proofs.SameRegions.{sample_moves, kept_moves, lean_moves}
 use Rattle.bc_discs.proofs.Shown.{disc_factor}
 use Rattle.bc_formula.proofs.ContourPoints.{inside_of, off_from_clear}
 
@@ -67,35 +71,54 @@ seen_case : (o : Option P2) (spot : Spot) → option_map Flat o ≡ Some spot �
 seen_case None spot f = cc
 seen_case (Some q) spot f = (q, refl, sym (same_Some (Flat q) spot f))
 
-module _ (es : List Element) (b : Box2) (t : Curves) (regions : List Region) (all : List Candidate)
+-- a region and a set that are kept are so with any region of the same mask, and no dropping rule drops them
+pub record IsKeeping (K : Keeping) (b : Box2) (t : Curves) : Type 0 where
+  pub kept : (r : Region) (set : ℕ) → K b (lines_of t) t.discs r set → IsKept b (lines_of t) t.discs r set
+  pub moves : (r u : Region) → IsRegion b (lines_of t) r → IsRegion b (lines_of t) u → r.mask ≡ u.mask → (set : ℕ) → K b (lines_of t) t.discs r set → K b (lines_of t) t.discs u set
+
+pub whole_keeping : (b : Box2) (t : Curves) → IsKeeping IsKept b t
+whole_keeping b t = record { kept = λ r set k. k; moves = λ r u cell other same set k. kept_moves b (lines_of t) r u cell other same t.discs set k }
+
+pub lean_keeping : (b : Box2) (t : Curves) → IsKeeping IsLean b t
+lean_keeping b t = record { kept = λ r set k. k.kept; moves = λ r u cell other same set k. lean_moves b (lines_of t) r u cell other same t.discs set k }
+
+pub keeping : (masks : Masks) (b : Box2) (t : Curves) → IsKeeping (keeping_of masks) b t
+keeping Whole b t = whole_keeping b t
+keeping Lean b t = lean_keeping b t
+
+module _ (K : Keeping) (es : List Element) (b : Box2) (t : Curves) (keeping : IsKeeping K b t) (regions : List Region) (all : List Candidate)
     (of_input : AreCurves es t) (table : IsTable es t) (proper : All IsProper es) (law : OddMaskLaw es t)
     (cells : AreCells IsSmallPoint line_side met2 2 (walls2 b) (lines_of t) regions)
-    (cand : AreCandidates b (lines_of t) t.discs regions all) where
+    (cand : AreCandidatesOf K b (lines_of t) t.discs regions all) where
   lines_count : length (lines_of t) ≡ length t.lines
   lines_count = length-map t.lines (λ (g : Line2 × _). g.0)
 
   pub region_at : (r : ℕ) (region : Region) → slice_get regions r ≡ Some region → IsRegion b (lines_of t) region
   region_at r region at = at_place (IsRegion b (lines_of t)) regions r region cells.each at
 
-  pub candidate_at : (c : Candidate) → Contains all c → IsCandidate b (lines_of t) t.discs regions c
-  candidate_at c h = All-contains (IsCandidate b (lines_of t) t.discs regions) all c cand.each h
+  pub candidate_at : (c : Candidate) → Contains all c → IsCandidateOf K b (lines_of t) t.discs regions c
+  candidate_at c h = All-contains (IsCandidateOf K b (lines_of t) t.discs regions) all c cand.each h
+
+  -- no dropping rule drops it
+  landed : (c : Candidate) → IsCandidateOf K b (lines_of t) t.discs regions c → IsCandidate b (lines_of t) t.discs regions c
+  landed c k = record { region = k.region; at = k.at; set = k.set; below = k.below; of_mask = k.of_mask; kept = keeping.kept k.region k.set k.kept; seen = k.seen }
 
   -- the parts of the mask of a candidate that is the mask of p
-  pub parts : (c : Candidate) (k : IsCandidate b (lines_of t) t.discs regions c) (p : P2) → c.mask ≡ curve_mask t p → (k.region.mask ≡ mask_of line_side (lines_of t) p) × (k.set ≡ mask_of disc_side t.discs p)
+  pub parts : (c : Candidate) (k : IsCandidateOf K b (lines_of t) t.discs regions c) (p : P2) → c.mask ≡ curve_mask t p → (k.region.mask ≡ mask_of line_side (lines_of t) p) × (k.set ≡ mask_of disc_side t.discs p)
   parts c k p e =
       let cell = region_at c.region k.region k.at in
       let below : k.region.mask < 2 ^ length t.lines = subst (λ n. k.region.mask < 2 ^ n) lines_count (subst (λ m. m < 2 ^ length (lines_of t)) cell.of_mask (mask_below line_side (lines_of t) k.region.inner)) in
       let whole : curve_mask t p ≡ k.region.mask + 2 ^ length t.lines * k.set = sym e ∙ k.of_mask ∙ ap (λ n. k.region.mask + 2 ^ n * k.set) lines_count in
       same_parts t p k.region.mask k.set below whole
 
-  odd_is : (c : Candidate) (p : P2) → IsCandidate b (lines_of t) t.discs regions c → IsOff es p → c.mask ≡ curve_mask t p → is_odd_candidate es t regions c ≡ is_odd_at es p
+  odd_is : (c : Candidate) (p : P2) → IsCandidateOf K b (lines_of t) t.discs regions c → IsOff es p → c.mask ≡ curve_mask t p → is_odd_candidate es t regions c ≡ is_odd_at es p
   odd_is c p k off e =
       let cell = region_at c.region k.region k.at in
       ap (is_odd_in es t c.mask) k.at ∙ ap (is_odd_mask es t k.region.inner) e ∙ sym (law p k.region.inner off cell.free.off (cell.of_mask ∙ (parts c k p e).0))
 
   -- ---- the points that are shown
 
-  named_of : (c : Candidate) (q : P2) → IsCandidate b (lines_of t) t.discs regions c → c.seen ≡ Some q → IsReduced2 q × IsSampleOfRegion es b q
+  named_of : (c : Candidate) (q : P2) → IsCandidateOf K b (lines_of t) t.discs regions c → c.seen ≡ Some q → IsReduced2 q × IsSampleOfRegion es b q
   named_of c q k e =
       let seen : IsSeen k.region.corners t.discs k.set (Some q) = subst (λ (o : Option P2). IsSeen k.region.corners t.discs k.set o) e k.seen in (
         seen.0,
@@ -106,7 +129,7 @@ module _ (es : List Element) (b : Box2) (t : Curves) (regions : List Region) (al
       → (p : P2) × (Flat q ≡ Flat p) × IsFreePoint contours es b p × IsSampleOfRegion es b p × (curve_mask t p ≡ c.mask) × Right p
   shown_point Right c q h right e =
       let k = candidate_at c h in
-      let w = seen_law b (lines_of t) t.discs regions c q cells.each k e in
+      let w = seen_law b (lines_of t) t.discs regions c q cells.each (landed c k) e in
       let mask : c.mask ≡ curve_mask t q = w.of_mask ∙ ap (λ n. mask_of line_side (lines_of t) q + 2 ^ n * mask_of disc_side t.discs q) lines_count in
       let off = off_from_clear es t table proper q (record { lines = w.free.off; discs = w.off }) in
       let r = named_of c q k e in
@@ -162,7 +185,7 @@ module _ (es : List Element) (b : Box2) (t : Curves) (regions : List Region) (al
   arc_of (Arc a c d ccw) e h = refl
 
   has_arc : (ds : List Disc2) → t.discs ≡ ds → (c : Candidate) → Contains all c → c.seen ≡ None → HasArc es
-  has_arc [] e c h none = absurd (some_sample b (lines_of t) regions c cells.each (subst (λ ds. IsCandidate b (lines_of t) ds regions c) e (candidate_at c h)) none)
+  has_arc [] e c h none = absurd (some_sample b (lines_of t) regions c cells.each (subst (λ ds. IsCandidate b (lines_of t) ds regions c) e (landed c (candidate_at c h))) none)
   has_arc (d ∷ ds) e c h none =
       let r = table.disc_from 0 d (ap (λ xs. slice_get xs 0) e) in
       (r.1.0, r.0, r.1.1, r.1.2, arc_of r.0 d r.2)
@@ -227,7 +250,7 @@ module _ (es : List Element) (b : Box2) (t : Curves) (regions : List Region) (al
 
   -- ---- the masks are those of candidates, odd or even
 
-  mask_of_candidate : (odd : Bool) (c : Candidate) → Contains all c → is_odd_candidate es t regions c ≡ odd → IsCandidateMask es b odd c.mask
+  mask_of_candidate : (odd : Bool) (c : Candidate) → Contains all c → is_odd_candidate es t regions c ≡ odd → IsMaskOf K es b odd c.mask
   mask_of_candidate odd c h e =
       let k = candidate_at c h in
       record { table = t; of_input = of_input; region = k.region; is_region = region_at c.region k.region k.at; set = k.set; below = k.below; kept = k.kept; of_mask = k.of_mask; parity = sym (ap (is_odd_in es t c.mask) k.at) ∙ e }
@@ -242,16 +265,16 @@ module _ (es : List Element) (b : Box2) (t : Curves) (regions : List Region) (al
       (All-map (λ m. Q (shown2 m)) marked (filter f all)
       (λ i d l. h (slice_index_or (filter f all) i d) (All-filter f (Contains all) all (All-contains_itself all) i d l) (filter_passes f all i d l)))
 
-  pub inside_masks : All (λ (m : Shown). IsCandidateMask es b true m.mask) (map shown2 (map marked (filter (is_odd_candidate es t regions) all)))
-  inside_masks = masks_passing (is_odd_candidate es t regions) (λ (m : Shown). IsCandidateMask es b true m.mask) (λ c h yes. mask_of_candidate true c h yes)
+  pub inside_masks : All (λ (m : Shown). IsMaskOf K es b true m.mask) (map shown2 (map marked (filter (is_odd_candidate es t regions) all)))
+  inside_masks = masks_passing (is_odd_candidate es t regions) (λ (m : Shown). IsMaskOf K es b true m.mask) (λ c h yes. mask_of_candidate true c h yes)
 
-  pub outside_masks : All (λ (m : Shown). IsCandidateMask es b false m.mask) (map shown2 (map marked (filter (λ c. not (is_odd_candidate es t regions c)) all)))
-  outside_masks = masks_passing (λ c. not (is_odd_candidate es t regions c)) (λ (m : Shown). IsCandidateMask es b false m.mask) (λ c h yes. mask_of_candidate false c h (not_true (is_odd_candidate es t regions c) yes))
+  pub outside_masks : All (λ (m : Shown). IsMaskOf K es b false m.mask) (map shown2 (map marked (filter (λ c. not (is_odd_candidate es t regions c)) all)))
+  outside_masks = masks_passing (λ c. not (is_odd_candidate es t regions c)) (λ (m : Shown). IsMaskOf K es b false m.mask) (λ c h yes. mask_of_candidate false c h (not_true (is_odd_candidate es t regions c) yes))
 
   -- ---- each mask of a candidate, odd or even, is that of one of these
 
   module _ (straight : StraightCellLaw es) where
-    region_listed : (odd : Bool) (r : Region) → IsRegion b (lines_of t) r → (set : ℕ) → set < 2 ^ length t.discs → IsKept b (lines_of t) t.discs r set
+    region_listed : (odd : Bool) (r : Region) → IsRegion b (lines_of t) r → (set : ℕ) → set < 2 ^ length t.discs → K b (lines_of t) t.discs r set
         → (mask : ℕ) → mask ≡ mask_with (lines_of t) r set → is_odd_mask es t r.inner mask ≡ odd → (c : Candidate) × Contains all c × (c.mask ≡ mask) × (is_odd_candidate es t regions c ≡ odd)
     region_listed odd r cell set below kept mask of_mask parity =
         let some = cells.some r.inner cell.free in
@@ -260,7 +283,7 @@ module _ (es : List Element) (b : Box2) (t : Curves) (regions : List Region) (al
         let other = region_at at.0 some.1 at.1 in
         let same : r.mask ≡ some.1.mask = sym (some.4 ∙ cell.of_mask) in
         let of_u : mask ≡ mask_with (lines_of t) some.1 set = of_mask ∙ ap (λ m. m + 2 ^ length (lines_of t) * set) same in
-        let a = cand.every at.0 some.1 set at.1 below (kept_moves b (lines_of t) r some.1 cell other same t.discs set kept) in
+        let a = cand.every at.0 some.1 set at.1 below (keeping.moves r some.1 cell other same set kept) in
         let c = any_contained (λ c. (c.region ≡ at.0) × (c.mask ≡ mask_with (lines_of t) some.1 set)) all a in
         let in_u : is_odd_candidate es t regions c.0 ≡ is_odd_mask es t some.1.inner c.0.mask = ap (λ i. is_odd_in es t c.0.mask (slice_get regions i)) c.2.0 ∙ ap (is_odd_in es t c.0.mask) at.1 in (
           c.0,
@@ -270,9 +293,9 @@ module _ (es : List Element) (b : Box2) (t : Curves) (regions : List Region) (al
               ∙ sym (region_parity es t of_input proper straight r.inner some.1.inner cell.free.off other.free.off (cell.of_mask ∙ same ∙ sym other.of_mask) mask) ∙ parity,
         )
 
-    mask_listed : (odd : Bool) (mask : ℕ) → IsCandidateMask es b odd mask → (c : Candidate) × Contains all c × (c.mask ≡ mask) × (is_odd_candidate es t regions c ≡ odd)
+    mask_listed : (odd : Bool) (mask : ℕ) → IsMaskOf K es b odd mask → (c : Candidate) × Contains all c × (c.mask ≡ mask) × (is_odd_candidate es t regions c ≡ odd)
     mask_listed odd mask o =
-        let F : Curves → Type 0 = λ u. (r : Region) → IsRegion b (lines_of u) r → (set : ℕ) → set < 2 ^ length u.discs → IsKept b (lines_of u) u.discs r set
+        let F : Curves → Type 0 = λ u. (r : Region) → IsRegion b (lines_of u) r → (set : ℕ) → set < 2 ^ length u.discs → K b (lines_of u) u.discs r set
         → (mask : ℕ) → mask ≡ mask_with (lines_of u) r set → is_odd_mask es u r.inner mask ≡ odd → (c : Candidate) × Contains all c × (c.mask ≡ mask) × (is_odd_candidate es t regions c ≡ odd) in
         subst F (sym (one_table es o.table t o.of_input of_input)) (region_listed odd) o.region o.is_region o.set o.below o.kept mask o.of_mask o.parity
 
@@ -281,12 +304,12 @@ module _ (es : List Element) (b : Box2) (t : Curves) (regions : List Region) (al
         contains_mapped (λ (m : Shown). m.mask) (map shown2 (map marked (filter f all))) (shown2 (marked c))
         (contains_mapped shown2 (map marked (filter f all)) (marked c) (contains_mapped marked (filter f all) c (filtered f all c h passed)))
 
-    pub every_inside : (mask : ℕ) → IsCandidateMask es b true mask → Contains (masks_of (map shown2 (map marked (filter (is_odd_candidate es t regions) all)))) mask
+    pub every_inside : (mask : ℕ) → IsMaskOf K es b true mask → Contains (masks_of (map shown2 (map marked (filter (is_odd_candidate es t regions) all)))) mask
     every_inside mask o =
         let c = mask_listed true mask o in
         subst (Contains (masks_of (map shown2 (map marked (filter (is_odd_candidate es t regions) all))))) c.2 (passing_listed (is_odd_candidate es t regions) c.0 c.1 c.3)
 
-    pub every_outside : (mask : ℕ) → IsCandidateMask es b false mask → Contains (masks_of (map shown2 (map marked (filter (λ c. not (is_odd_candidate es t regions c)) all)))) mask
+    pub every_outside : (mask : ℕ) → IsMaskOf K es b false mask → Contains (masks_of (map shown2 (map marked (filter (λ c. not (is_odd_candidate es t regions c)) all)))) mask
     every_outside mask o =
         let c = mask_listed false mask o in
         subst (Contains (masks_of (map shown2 (map marked (filter (λ c. not (is_odd_candidate es t regions c)) all))))) c.2 (passing_listed (λ c. not (is_odd_candidate es t regions c)) c.0 c.1 (ap not c.3))
@@ -297,22 +320,28 @@ pub marks_masks : (ms : List Marked2) → masks_of (map shown2 ms) ≡ map (λ (
 marks_masks [] = refl
 marks_masks (m ∷ ms) = ap (λ ns. m.mask ∷ ns) (marks_masks ms)
 
-pub contour_parts : (es : List Element) (b : Box2) (t : Curves) (regions : List Region) (all : List Candidate) (s : Split2)
-    → AreCurves es t → All IsProper es → OddMaskLaw es t → StraightCellLaw es
+pub contour_parts : (K : Keeping) (es : List Element) (b : Box2) (t : Curves) (regions : List Region) (all : List Candidate) (s : Split2)
+    → IsKeeping K b t → AreCurves es t → All IsProper es → OddMaskLaw es t → StraightCellLaw es
     → AreCells IsSmallPoint line_side met2 2 (walls2 b) (lines_of t) regions
-    → AreCandidates b (lines_of t) t.discs regions all
+    → AreCandidatesOf K b (lines_of t) t.discs regions all
     → IsSplit es t regions all s
-    → AreShownParts contours es b (curve_mask t) (map shown2 s.inside) (map shown2 s.outside)
-contour_parts es b t regions all s of_input proper law straight cells cand is =
+    → AreShownParts contours (IsMaskOf K) es b (curve_mask t) (map shown2 s.inside) (map shown2 s.outside)
+contour_parts K es b t regions all s keeping of_input proper law straight cells cand is =
     let table = table_is es t of_input in
     record {
-      inside_shown = subst (AreShown contours es b (curve_mask t) (Odd es)) (sym (ap (map shown2) is.inside)) (inside_shown es b t regions all of_input table proper law cells cand);
-      outside_shown = subst (AreShown contours es b (curve_mask t) (λ p. Odd es p → ⊥)) (sym (ap (map shown2) is.outside)) (outside_shown es b t regions all of_input table proper law cells cand);
-      inside_masks = subst (All (λ (m : Shown). IsCandidateMask es b true m.mask)) (sym (ap (map shown2) is.inside)) (inside_masks es b t regions all of_input table proper law cells cand);
-      outside_masks = subst (All (λ (m : Shown). IsCandidateMask es b false m.mask)) (sym (ap (map shown2) is.outside)) (outside_masks es b t regions all of_input table proper law cells cand);
-      every_inside = subst (λ (ms : List Shown). (mask : ℕ) → IsCandidateMask es b true mask → Contains (masks_of ms) mask) (sym (ap (map shown2) is.inside)) (every_inside es b t regions all of_input table proper law cells cand straight);
-      every_outside = subst (λ (ms : List Shown). (mask : ℕ) → IsCandidateMask es b false mask → Contains (masks_of ms) mask) (sym (ap (map shown2) is.outside)) (every_outside es b t regions all of_input table proper law cells cand straight);
+      inside_shown = subst (AreShown contours es b (curve_mask t) (Odd es)) (sym (ap (map shown2) is.inside)) (inside_shown K es b t keeping regions all of_input table proper law cells cand);
+      outside_shown = subst (AreShown contours es b (curve_mask t) (λ p. Odd es p → ⊥)) (sym (ap (map shown2) is.outside)) (outside_shown K es b t keeping regions all of_input table proper law cells cand);
+      inside_masks = subst (All (λ (m : Shown). IsMaskOf K es b true m.mask)) (sym (ap (map shown2) is.inside)) (inside_masks K es b t keeping regions all of_input table proper law cells cand);
+      outside_masks = subst (All (λ (m : Shown). IsMaskOf K es b false m.mask)) (sym (ap (map shown2) is.outside)) (outside_masks K es b t keeping regions all of_input table proper law cells cand);
+      every_inside = subst (λ (ms : List Shown). (mask : ℕ) → IsMaskOf K es b true mask → Contains (masks_of ms) mask) (sym (ap (map shown2) is.inside)) (every_inside K es b t keeping regions all of_input table proper law cells cand straight);
+      every_outside = subst (λ (ms : List Shown). (mask : ℕ) → IsMaskOf K es b false mask → Contains (masks_of ms) mask) (sym (ap (map shown2) is.outside)) (every_outside K es b t keeping regions all of_input table proper law cells cand straight);
     }
+
+-- the masks of a kind are those of the regions with the sets with which they are kept
+pub parts_of_kind : (masks : Masks) (es : List Element) (b : Box2) (mask_at : P2 → ℕ) (inside outside : List Shown)
+    → AreShownParts contours (IsMaskOf (keeping_of masks)) es b mask_at inside outside → AreShownParts contours (mask_kind masks contours) es b mask_at inside outside
+parts_of_kind Whole es b mask_at inside outside are = are
+parts_of_kind Lean es b mask_at inside outside are = are
 
 -- each leaf is a strip or a disc
 pub half_spaces2 : (t : Curves) → All (λ l. is_half_space l ≡ true) (leaves_of t)

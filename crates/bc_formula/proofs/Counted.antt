@@ -1,10 +1,10 @@
 -- What is counted of a division and of the notes of its formula is what the boundary and the products have: a part for each
 -- mask, a leaf for each half-space, and a note for each product and each literal.
-use Rattle.std.proofs.Common.{◌≡◌, ℕ, ◌+◌, suc, Bool, true, false, not, List, [], ◌∷◌, ◌++◌, map, length, refl, sym, ap, ◌∙◌, inl, inr, arith}
+use Rattle.std.proofs.Common.{◌≡◌, ◌≢◌, ℕ, ◌+◌, suc, Bool, true, false, not, List, [], ◌∷◌, ◌++◌, map, length, refl, sym, ap, ◌∙◌, inl, inr, arith}
 use Rattle.std.specs.Prelude.{cond, filter}
-use Rattle.std.specs.List.{All, AllZip, Contains}
+use Rattle.std.specs.List.{All, AllPairs, AllZip, Contains}
 use Rattle.std.proofs.lemmas.List.{length-map, length-append}
-use Rattle.std.proofs.lemmas.List.Elements.{All-contains, All-map}
+use Rattle.std.proofs.lemmas.List.Elements.{All-head, All-tail, All-contains, All-map}
 use Rattle.bc_num.specs.declared.v2.V2.{V2}
 use Rattle.bc_num.specs.declared.disc2.Disc2.{Disc2}
 use Rattle.bc_space.specs.declared.line2.Line2.{Line2}
@@ -24,7 +24,7 @@ use Rattle.bc_formula.specs.Geometry.{Geometry}
 use Rattle.bc_formula.specs.ContourGeometry.{strip_leaf, leaves_of}
 use Rattle.bc_formula.specs.MeshGeometry.{slabs_of}
 use Rattle.bc_formula.specs.Notes.{AreNotes, IsNote, SaysOf}
-use Rattle.bc_formula.specs.Shown.{masks_of}
+use Rattle.bc_formula.specs.Shown.{masks_of, AreShownParts}
 use Rattle.bc_formula.specs.Divisions.{IsDivision}
 use Rattle.bc_formula.specs.Tallies.{AreParted, is_disc, is_own, literal_count}
 
@@ -34,7 +34,7 @@ longer : {X : Type 0} (b : Bool) (x : X) (us vs ws : List X) → length us ≡ l
 longer true x us vs ws e = omega (arith, e)
 longer false x us vs ws e = e
 
-count_both : {X : Type 0} (f : X → Bool) (xs ys : List X) → length (filter f (xs ++ ys)) ≡ length (filter f xs) + length (filter f ys)
+pub count_both : {X : Type 0} (f : X → Bool) (xs ys : List X) → length (filter f (xs ++ ys)) ≡ length (filter f xs) + length (filter f ys)
 count_both f [] ys = omega arith
 count_both f (x ∷ xs) ys = longer (f x) x (filter f (xs ++ ys)) (filter f xs) (filter f ys) (count_both f xs ys)
 
@@ -43,6 +43,10 @@ alike true true x y us vs e h = ap suc h
 alike true false x y us vs e h = cc
 alike false true x y us vs e h = cc
 alike false false x y us vs e h = h
+
+pub count_alike : {X : Type 0} (f g : X → Bool) (xs : List X) → All (λ x. f x ≡ g x) xs → length (filter f xs) ≡ length (filter g xs)
+count_alike f g [] h = refl
+count_alike f g (x ∷ xs) h = alike (f x) (g x) x x (filter f xs) (filter g xs) (All-head (λ x. f x ≡ g x) x xs h) (count_alike f g xs (All-tail (λ x. f x ≡ g x) x xs h))
 
 count_zip : {A B : Type 0} (R : A → B → Type 0) (f : A → Bool) (g : B → Bool) (xs : List A) (ys : List B) → AllZip R xs ys → ((x : A) (y : B) → R x y → f x ≡ g y) → length (filter f xs) ≡ length (filter g ys)
 count_zip R f g [] [] h same = refl
@@ -116,17 +120,22 @@ module _ {B P X : Type 0} (k : Geometry B P X) (b : B) (box : X) (leaves : List 
 mask_among : (Is : ℕ → Type 0) (ms : List Shown) → All (λ (m : Shown). Is m.mask) ms → (mask : ℕ) → Contains (masks_of ms) mask → Is mask
 mask_among Is ms h mask has = All-contains Is (masks_of ms) mask (All-map Is (λ (m : Shown). m.mask) ms h) has
 
--- the lists of a division have one entry for each part
-pub parts_counted : {B P X : Type 0} (k : Geometry B P X) (b : B) (box : X) (d : Division) → IsDivision k b box d → AreParted k b box (length d.inside.items + length d.outside.items) (length d.inside.items)
-parts_counted k b box d is = record {
-  odd = masks_of d.inside.items;
-  even = masks_of d.outside.items;
-  odd_are = λ mask. (λ has. is.parts.every_inside mask has, λ has. mask_among (k.has_mask b box true) d.inside.items is.parts.inside_masks mask has);
-  even_are = λ mask. (λ has. is.parts.every_outside mask has, λ has. mask_among (k.has_mask b box false) d.outside.items is.parts.outside_masks mask has);
-  once = is.masks.distinct;
-  parts_are = sym (length-append (masks_of d.inside.items) (masks_of d.outside.items) ∙ ap (λ n. n + length (masks_of d.outside.items)) (length-map d.inside.items (λ (m : Shown). m.mask)) ∙ ap (λ n. length d.inside.items + n) (length-map d.outside.items (λ (m : Shown). m.mask)));
-  inside_are = sym (length-map d.inside.items (λ (m : Shown). m.mask));
+-- lists of all masks have one entry for each part
+pub parted : {B P X : Type 0} (k : Geometry B P X) (b : B) (box : X) (mask_at : P → ℕ) (inside outside : List Shown) → AreShownParts k k.has_mask b box mask_at inside outside
+    → AllPairs (λ (one other : ℕ). one ≢ other) (masks_of inside ++ masks_of outside) → AreParted k b box (length inside + length outside) (length inside)
+parted k b box mask_at inside outside parts distinct = record {
+  odd = masks_of inside;
+  even = masks_of outside;
+  odd_are = λ mask. (λ has. parts.every_inside mask has, λ has. mask_among (k.has_mask b box true) inside parts.inside_masks mask has);
+  even_are = λ mask. (λ has. parts.every_outside mask has, λ has. mask_among (k.has_mask b box false) outside parts.outside_masks mask has);
+  once = distinct;
+  parts_are = sym (length-append (masks_of inside) (masks_of outside) ∙ ap (λ n. n + length (masks_of outside)) (length-map inside (λ (m : Shown). m.mask)) ∙ ap (λ n. length inside + n) (length-map outside (λ (m : Shown). m.mask)));
+  inside_are = sym (length-map inside (λ (m : Shown). m.mask));
 }
+
+-- and so have those of a division
+pub parts_counted : {B P X : Type 0} (k : Geometry B P X) (b : B) (box : X) (d : Division) → IsDivision k k.has_mask b box d → AreParted k b box (length d.inside.items + length d.outside.items) (length d.inside.items)
+parts_counted k b box d is = parted k b box is.mask_at d.inside.items d.outside.items is.parts is.masks.distinct
 
 -- ---- half-spaces
 

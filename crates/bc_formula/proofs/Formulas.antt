@@ -100,7 +100,7 @@ module _ {B P X : Type 0} (k : Geometry B P X) (b : B) (box : X) (leaves : List 
   }
 
 -- what is made of a boundary's division is a formula of the boundary
-pub formula_made : {B P X : Type 0} (k : Geometry B P X) (b : B) (box : X) (d : Division) (f : Formula) → IsDivision k b box d → IsMadeOf d f → (f.head ≡ k.head box) × IsFormula k b box (shape f.tree) f.notes.items
+pub formula_made : {B P X : Type 0} (k : Geometry B P X) (b : B) (box : X) (d : Division) (f : Formula) → IsDivision k k.lean_mask b box d → IsMadeOf d f → (f.head ≡ k.head box) × IsFormula k b box (shape f.tree) f.notes.items
 formula_made k b box d f h made =
     let tells : TellsSides k b box d.leaves h.mask_at = record { in_block = h.bits.in_block; bits = h.bits.bits } in
     let products = map product_of made.terms in

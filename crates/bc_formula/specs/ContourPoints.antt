@@ -13,9 +13,12 @@ use Rattle.bc_solid.specs.declared.element.Element.{Element}
 use Rattle.bc_natural.specs.Curves.{Curves, AreCurves, lines_of, is_arc}
 use Rattle.bc_cells.specs.Cells.{HasCorners}
 use Rattle.bc_discs.specs.Samples.{IsSample}
-use Rattle.bc_discs.specs.Candidates.{Region, IsKept, mask_with}
+use Rattle.bc_discs.specs.Candidates.{Region, Keeping, IsKept, mask_with}
 use Rattle.bc_discs.specs.Laws.{IsRegion}
+use Rattle.bc_discs.specs.Thinning.{IsLean}
 use Rattle.bc_classify.specs.OddMasks.{is_odd_mask}
+use Rattle.bc_formula.specs.declared.masks.Masks.{Masks}
+use Rattle.bc_formula.specs.declared.masks.Masks.TheVariants.{Whole, Lean}
 
 -- as a rational point, p is a sample of the region of some free point, on no circle
 pub record IsSampleOfRegion (es : List Element) (box : Box2) (p : P2) : Type 0 where
@@ -30,17 +33,30 @@ pub record IsSampleOfRegion (es : List Element) (box : Box2) (p : P2) : Type 0 w
   pub off : All (λ d. disc_side d sample ≢ On) table.discs
   pub same : IsSamePoint2 sample p
 
--- the mask of a region with a set of discs that no rule drops, which is odd or even
-pub record IsCandidateMask (es : List Element) (box : Box2) (odd : Bool) (mask : ℕ) : Type 0 where
+-- which regions are kept with which sets: those that no dropping rule drops, or of these the ones that the two exact rules leave
+abbrev pub keeping_of : Masks → Keeping
+keeping_of Whole = IsKept
+keeping_of Lean = IsLean
+
+-- the mask of a region with a set of discs with which it is kept, which is odd or even
+pub record IsMaskOf (Keeps : Keeping) (es : List Element) (box : Box2) (odd : Bool) (mask : ℕ) : Type 0 where
   pub table : Curves
   pub of_input : AreCurves es table
   pub region : Region
   pub is_region : IsRegion box (lines_of table) region
   pub set : ℕ
   pub below : set < 2 ^ length table.discs
-  pub kept : IsKept box (lines_of table) table.discs region set
+  pub kept : Keeps box (lines_of table) table.discs region set
   pub of_mask : mask ≡ mask_with (lines_of table) region set
   pub parity : is_odd_mask es table region.inner mask ≡ odd
+
+-- where no dropping rule drops it
+abbrev pub IsCandidateMask : List Element → Box2 → Bool → ℕ → Type 0
+IsCandidateMask es box odd mask = IsMaskOf IsKept es box odd mask
+
+-- and neither of the two exact rules takes it out
+abbrev pub IsLeanMask : List Element → Box2 → Bool → ℕ → Type 0
+IsLeanMask es box odd mask = IsMaskOf IsLean es box odd mask
 
 -- some element is an arc
 abbrev pub HasArc : List Element → Type 0

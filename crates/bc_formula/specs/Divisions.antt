@@ -1,6 +1,6 @@
 -- What a boundary divides its box into: the leaves of its half-spaces, and the masks inside and outside, of which a cover
 -- makes the formula.
-use Rattle.std.specs.Prelude.{◌≡◌, ◌≢◌, ◌↔◌, ◌⊎◌, ◌<◌, ◌≤◌, ◌^◌, ℕ, true, false, List, ◌++◌, length, slice_get, Some}
+use Rattle.std.specs.Prelude.{◌≡◌, ◌≢◌, ◌↔◌, ◌⊎◌, ◌<◌, ◌≤◌, ◌^◌, ℕ, Bool, true, false, List, ◌++◌, length, slice_get, Some}
 use Rattle.std.specs.List.{All, AllPairs, AllZip, Contains}
 use Rattle.std.specs.Int.{bit_at}
 use Rattle.bc_cover.specs.declared.term.Term.{Term}
@@ -14,6 +14,8 @@ use Rattle.bc_notes.specs.Nodes.{is_half_space}
 use Rattle.bc_notes.specs.Products.{products_of}
 use Rattle.bc_notes.specs.Noted.{noted}
 use Rattle.bc_notes.specs.Chosen.{IsNoteOf}
+use Rattle.bc_formula.specs.declared.masks.Masks.{Masks}
+use Rattle.bc_formula.specs.declared.masks.Masks.TheVariants.{Whole, Lean}
 use Rattle.bc_formula.specs.declared.terms.Formula.{Formula}
 use Rattle.bc_formula.specs.declared.terms.Division.{Division}
 use Rattle.bc_formula.specs.Geometry.{Geometry}
@@ -44,8 +46,13 @@ pub record AreDivided {B P X : Type 0} (k : Geometry B P X) (b : B) (box : X) (m
   pub odd : (p : P) → k.inside box p → k.off b p → k.odd b p → Contains inside (mask_at p)
   pub even : (p : P) → k.inside box p → k.off b p → (k.odd b p → ⊥) → Contains outside (mask_at p)
 
--- the division is that of the boundary within its box
-pub record IsDivision {B P X : Type 0} (k : Geometry B P X) (b : B) (box : X) (d : Division) : Type 0 where
+-- the masks of all parts, or the lean ones
+abbrev pub mask_kind : {B P X : Type 0} → Masks → Geometry B P X → B → X → Bool → ℕ → Type 0
+mask_kind Whole k = k.has_mask
+mask_kind Lean k = k.lean_mask
+
+-- the division is that of the boundary within its box, with the masks of a kind
+pub record IsDivision {B P X : Type 0} (k : Geometry B P X) (Has : B → X → Bool → ℕ → Type 0) (b : B) (box : X) (d : Division) : Type 0 where
   pub block : d.block ≡ k.block box
   pub head : d.head ≡ k.head box
   pub mask_at : P → ℕ
@@ -54,7 +61,7 @@ pub record IsDivision {B P X : Type 0} (k : Geometry B P X) (b : B) (box : X) (d
   pub half_spaces : All (λ l. is_half_space l ≡ true) d.leaves
   pub masks : AreMasks d.leaves (masks_of d.inside.items) (masks_of d.outside.items)
   pub divided : AreDivided k b box mask_at (masks_of d.inside.items) (masks_of d.outside.items)
-  pub parts : AreShownParts k b box mask_at d.inside.items d.outside.items
+  pub parts : AreShownParts k Has b box mask_at d.inside.items d.outside.items
 
 -- the formula is that of terms that cover the masks of the division
 pub record IsMadeOf (d : Division) (f : Formula) : Type 0 where

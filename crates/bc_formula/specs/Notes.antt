@@ -63,7 +63,7 @@ module _ {B P X : Type 0} (k : Geometry B P X) (b : B) (box : X) where
       -- and each note says what it is to say of its product or literal
       pub each : AllZip (IsNote products) (noted (length leaves) products) notes
 
-  -- no product and no literal is idle, by masks: each product alone holds an odd mask, and each literal keeps out an even one
+  -- no product and no literal is idle, by the lean masks: each product alone holds an odd one, and each literal keeps out an even one
   pub record AreNeeded (bits : ℕ) (products : List Product) : Type 0 where
-    pub own : (i : ℕ) (q : Product) → slice_get products i ≡ Some q → (mask : ℕ) × k.has_mask b box true mask × IsAlone products i mask
-    pub out : All (λ q. All (λ l. (mask : ℕ) × k.has_mask b box false mask × HoldsMask (without_literal q l) mask) (literals_of bits q)) products
+    pub own : (i : ℕ) (q : Product) → slice_get products i ≡ Some q → (mask : ℕ) × k.lean_mask b box true mask × IsAlone products i mask
+    pub out : All (λ q. All (λ l. (mask : ℕ) × k.lean_mask b box false mask × HoldsMask (without_literal q l) mask) (literals_of bits q)) products

@@ -4,10 +4,14 @@
 #![tactic(auto)]
 
 pub mod contours;
+mod masks;
 pub mod meshes;
+mod part_counts;
 mod tally;
 mod terms;
 
 pub use contours::{contour_division, contour_formula};
+pub use masks::Masks;
 pub use meshes::{mesh_division, mesh_formula};
+pub use part_counts::{PartCounts, contour_part_counts};
 pub use terms::{Division, Formula, Parts, formula_of, terms_of};

@@ -69,7 +69,7 @@ fn divide(alloc: Global, solid: &Solid, table: &PlaneTable, block: &Box3) -> Res
     requires near { IsNearBox3 block.now }
     ensures masks { IfOk result (λ m. AreMasks (slabs_of table.now) (masks_of m.inside.items) (masks_of m.outside.items)) }
     ensures divided { IfOk result (λ m. AreDivided meshes solid.now block.now (plane_mask table.now) (masks_of m.inside.items) (masks_of m.outside.items)) }
-    ensures parts { IfOk result (λ m. AreShownParts meshes solid.now block.now (plane_mask table.now) m.inside.items m.outside.items) }
+    ensures parts { IfOk result (λ m. AreShownParts meshes meshes.has_mask solid.now block.now (plane_mask table.now) m.inside.items m.outside.items) }
 {
     let planes = table.plane_list(alloc)?;
     let all = cells::<Solid3>(alloc, block, planes.as_slice())?;
@@ -106,7 +106,7 @@ fn division_of(alloc: Global, solid: &Solid, table: &PlaneTable) -> Result<Divis
     requires planes { ArePlanes solid.now table.now }
     requires sized { ArePlanesSized table.now }
     requires few { ArePlanesFew table.now }
-    ensures { IfOk result (λ d. (box : ABox) × IsDivision meshes solid.now box d) }
+    ensures { IfOk result (λ d. (box : ABox) × IsDivision meshes meshes.has_mask solid.now box d) }
 {
     solid.law();
     outside_law3(solid);
@@ -123,7 +123,7 @@ fn division_of(alloc: Global, solid: &Solid, table: &PlaneTable) -> Result<Divis
 
 /// What a closed mesh divides its box into. `TooManyPlanes` where it has more half-spaces than a conversion takes.
 pub fn mesh_division(alloc: Global, solid: &Solid) -> Result<Division, NatFault>
-    ensures ok { IfOk result (λ d. (box : ABox) × IsDivision meshes solid.now box d) }
+    ensures ok { IfOk result (λ d. (box : ABox) × IsDivision meshes meshes.has_mask solid.now box d) }
     ensures err { IfErr result (IsPlaneLimitFault solid.now) }
 {
     let table = planes(alloc, solid)?;
