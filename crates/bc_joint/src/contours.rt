@@ -19,7 +19,7 @@ ghost use Rattle.bc_joint.specs.ContourPairs.{is_chosen_at, contour_pairs};
 use bc_cells::cells;
 use bc_classify::laws::{joint_mask_law, odd_mask_law};
 use bc_combine::{Op, combine2};
-use bc_discs::candidates;
+use bc_discs::lean_candidates;
 use bc_formula::contours::{leaves, parts_of};
 use bc_formula::{Division, Formula, Parts, formula_of};
 use bc_natural::{CurveTable, NatFault, box2, curves};
@@ -42,8 +42,8 @@ fn outside_pair_law(op: Op, a: &Profile, b: &Profile)
     let _second = box2(b);
 }
 
-// The masks of the regions of the lines of both with sets of discs, by whether the operation is true of them, with the
-// samples that were seen.
+// The lean masks of the regions of the lines of both with sets of discs, by whether the operation is true of them, with
+// the samples that were seen.
 fn divide(
     alloc: Global,
     op: Op,
@@ -60,13 +60,13 @@ fn divide(
     requires near { IsNearBox tile.now }
     ensures masks { IfOk result (λ m. AreMasks (leaves_of table.now) (masks_of m.inside.items) (masks_of m.outside.items)) }
     ensures divided { IfOk result (λ m. AreDivided (contour_pairs op) (pair a.now b.now) tile.now (curve_mask table.now) (masks_of m.inside.items) (masks_of m.outside.items)) }
-    ensures parts { IfOk result (λ m. AreShownParts (contour_pairs op) (pair a.now b.now) tile.now (curve_mask table.now) m.inside.items m.outside.items) }
+    ensures parts { IfOk result (λ m. AreShownParts (contour_pairs op) (contour_pairs op).lean_mask (pair a.now b.now) tile.now (curve_mask table.now) m.inside.items m.outside.items) }
 {
     let lines = table.line_list(alloc)?;
     let discs = table.disc_list(alloc)?;
     let regions = cells::<Flat>(alloc, tile, lines.as_slice())?;
-    let all = candidates(alloc, tile, lines.as_slice(), &regions, discs.as_slice())?;
-    let split = combine2(alloc, op, a, b, table, &regions, &all)?;
+    let lean = lean_candidates(alloc, tile, lines.as_slice(), &regions, discs.as_slice())?;
+    let split = combine2(alloc, op, a, b, table, &regions, &lean)?;
     joint.law();
     odd_mask_law(joint, table);
     joint_mask_law(a, b, table);
@@ -75,7 +75,7 @@ fn divide(
     parts_of(alloc, &split)
 }
 
-// What both parts, whose elements are those of `joint`, divide their box into.
+// What both parts, whose elements are those of `joint`, divide their box into, with the lean masks.
 fn joint_division(
     alloc: Global,
     op: Op,
@@ -84,7 +84,7 @@ fn joint_division(
     joint: &Profile,
 ) -> Result<Division, NatFault>
     requires { joint.now ≡ both (pair a.now b.now) }
-    ensures ok { IfOk result (λ d. (box : ABox) × IsDivision (contour_pairs op) (pair a.now b.now) box d) }
+    ensures ok { IfOk result (λ d. (box : ABox) × IsDivision (contour_pairs op) (contour_pairs op).lean_mask (pair a.now b.now) box d) }
     ensures err { IfErr result (IsLimitFault joint.now) }
 {
     outside_law2(joint);
@@ -101,7 +101,7 @@ fn joint_division(
     })
 }
 
-// What both parts divide their box into.
+// What both parts divide their box into, with the lean masks.
 fn contour_pair_division(
     alloc: Global,
     op: Op,
@@ -109,15 +109,16 @@ fn contour_pair_division(
     b: &Profile,
 ) -> Result<Division, NatFault>
     requires { length a.now + length b.now ≤ 2 ^ 20 }
-    ensures ok { IfOk result (λ d. (box : ABox) × IsDivision (contour_pairs op) (pair a.now b.now) box d) }
+    ensures ok { IfOk result (λ d. (box : ABox) × IsDivision (contour_pairs op) (contour_pairs op).lean_mask (pair a.now b.now) box d) }
     ensures err { IfErr result (IsLimitFault (a.now ++ b.now)) }
 {
     let joint = join_profiles(alloc, a, b)?;
     joint_division(alloc, op, a, b, &joint)
 }
 
-/// The formula of closed contours in two parts with an operation: terms of the half-spaces that both induce. `TooManyLines`
-/// or `TooManyDiscs` where these are more than a conversion takes. Together the parts have at most 2^20 elements.
+/// The formula of closed contours in two parts with an operation: terms of the half-spaces that both induce, which cover
+/// the lean masks. `TooManyLines` or `TooManyDiscs` where these half-spaces are more than a conversion takes. Together the
+/// parts have at most 2^20 elements.
 pub fn contour_pair_formula(
     alloc: Global,
     op: Op,

@@ -57,7 +57,7 @@ fn divide(
     requires near { IsNearBox3 block.now }
     ensures masks { IfOk result (λ m. AreMasks (slabs_of table.now) (masks_of m.inside.items) (masks_of m.outside.items)) }
     ensures divided { IfOk result (λ m. AreDivided (mesh_pairs op) (pair a.now b.now) block.now (plane_mask table.now) (masks_of m.inside.items) (masks_of m.outside.items)) }
-    ensures parts { IfOk result (λ m. AreShownParts (mesh_pairs op) (pair a.now b.now) block.now (plane_mask table.now) m.inside.items m.outside.items) }
+    ensures parts { IfOk result (λ m. AreShownParts (mesh_pairs op) (mesh_pairs op).lean_mask (pair a.now b.now) block.now (plane_mask table.now) m.inside.items m.outside.items) }
 {
     let planes = table.plane_list(alloc)?;
     let all = cells::<Solid3>(alloc, block, planes.as_slice())?;
@@ -76,7 +76,7 @@ fn joint_division(
     joint: &Solid,
 ) -> Result<Division, NatFault>
     requires { joint.now ≡ both (pair a.now b.now) }
-    ensures ok { IfOk result (λ d. (box : ABox) × IsDivision (mesh_pairs op) (pair a.now b.now) box d) }
+    ensures ok { IfOk result (λ d. (box : ABox) × IsDivision (mesh_pairs op) (mesh_pairs op).lean_mask (pair a.now b.now) box d) }
     ensures err { IfErr result (IsPlaneLimitFault joint.now) }
 {
     joint.law();
@@ -98,7 +98,7 @@ fn joint_division(
 fn mesh_pair_division(alloc: Global, op: Op, a: &Solid, b: &Solid) -> Result<Division, NatFault>
     requires faces { length a.now + length b.now ≤ 2 ^ 20 }
     requires corners { corner_count (outlines a.now) + corner_count (outlines b.now) ≤ 2 ^ 20 }
-    ensures ok { IfOk result (λ d. (box : ABox) × IsDivision (mesh_pairs op) (pair a.now b.now) box d) }
+    ensures ok { IfOk result (λ d. (box : ABox) × IsDivision (mesh_pairs op) (mesh_pairs op).lean_mask (pair a.now b.now) box d) }
     ensures err { IfErr result (IsPlaneLimitFault (a.now ++ b.now)) }
 {
     let joint = join_solids(alloc, a, b)?;

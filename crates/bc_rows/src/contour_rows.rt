@@ -35,11 +35,17 @@ const ROOT: &str = "G00 X5 Y5\nG03 X-5 Y5 I-5 J-5\nG01 X5 Y5\n";
 const ROOT_TEXT: &str =
     "// bcsg 2 contour\n// box -9 -9 9 9\nunion() {\n  difference() {\n    intersection() {\n      translate([-9,-9,0]) square([18,18]);\n      translate([-8187,5,0]) square([16384,8192]);\n      translate([0,0,0]) circle(r=sqrt(50));\n    }\n  }\n}\n";
 
+// Two discs meet in it; what lies on one side of the chord of both and in one disc only has no point.
+const LENS: &str = "G00 X0 Y-4\nG03 X0 Y4 I-3 J4\nG03 X0 Y-4 I3 J-4\n";
+
+const LENS_TEXT: &str =
+    "// bcsg 2 contour\n// box -9 -6 9 6\nunion() {\n  difference() {\n    intersection() {\n      translate([-9,-6,0]) square([18,12]);\n      translate([-3,0,0]) circle(r=sqrt(25));\n      translate([3,0,0]) circle(r=sqrt(25));\n    }\n  }\n}\n";
+
 const SKEW: &str = "G00 X5 Y0\nG03 X0 Y4 I-5 J0\nG01 X5 Y0\n";
 
 const BOWL: &str = "G00 X-5 Y0\nG03 X5 Y0 I5 J0\nG01 X8 Y5\nG01 X-8 Y5\nG01 X-5 Y0\n";
 
-const RUNS: [Case; 40] = [
+const RUNS: [Case; 41] = [
     Case {
         words: "convert contour",
         input: DISC,
@@ -94,6 +100,13 @@ const RUNS: [Case; 40] = [
         input: ROOT,
         code: 0,
         out: ROOT_TEXT,
+        notes: "",
+    },
+    Case {
+        words: "convert contour",
+        input: LENS,
+        code: 0,
+        out: LENS_TEXT,
         notes: "",
     },
     Case {

@@ -81,7 +81,7 @@ alike2 s t h p = h.in_plane p
 pub alike3 : HoldsAlike meshes
 alike3 s t h p = h.in_space p
 
-module _ {B P X : Type 0} (k : Geometry B P X) (b : B) (box : X) (d : Division) (f : Factored) (is : IsDivision k b box d) (made : IsFactoredFrom d f) (alike : HoldsAlike k) where
+module _ {B P X : Type 0} (k : Geometry B P X) (b : B) (box : X) (d : Division) (f : Factored) (is : IsDivision k k.has_mask b box d) (made : IsFactoredFrom d f) (alike : HoldsAlike k) where
   meaning : Means k b box (shape f.tree)
   meaning =
       let plain : Means k b box (cover_shape d.block d.leaves made.terms) =

@@ -1,13 +1,17 @@
 -- A trial is of its generated text: that text is never refused, and what is counted of its division and formula is what its
 -- boundary and its text have. And two texts put one behind the other are put as one.
-use Rattle.std.proofs.Common.{◌≡◌, ◌≢◌, ◌≤◌, ℕ, List, ◌++◌, not, length, Option, Result, Err, inl, inr, refl, sym, ap, ◌∙◌, subst, arith}
-use Rattle.std.specs.Prelude.{filter, IfErr}
+use Rattle.std.proofs.Common.{◌≡◌, ◌≢◌, ◌≤◌, ℕ, List, [], ◌∷◌, ◌++◌, not, length, Option, Result, Err, inl, inr, refl, sym, ap, ◌∙◌, subst, arith}
+use Rattle.std.specs.Prelude.{filter, IfErr, Any}
+use Rattle.std.proofs.lemmas.Int.{ints}
+use lib.IntN.{ℤ, pos, ◌+ℤ◌, ◌-ℤ◌}
 use Rattle.std.specs.Io.KnownBytes.{Appends, Keeps}
 use Rattle.bc_io.specs.Causes.{Rose}
 use Rattle.bc_io.proofs.Known.{Appends-trans, AppendsFront-more, AppendsFront-behind}
 use Rattle.bc_num.specs.declared.box2.Box2.{Box2}
 use Rattle.bc_num.specs.declared.box3.Box3.{Box3}
+use Rattle.bc_num.proofs.Same.{box2_same}
 use Rattle.bc_solid.specs.declared.element.Element.{Element}
+use Rattle.bc_solid.specs.Boxes.{IsLeast, IsGreatest, IsXOf, IsYOf, IsBoxOf}
 use Rattle.bc_solid.specs.Closed.{joined}
 use Rattle.bc_solid.specs.Meshes.{faces_of}
 use Rattle.bc_solid.specs.Facets.{Facet, outlines}
@@ -29,7 +33,8 @@ use Rattle.bc_formula.specs.ContourGeometry.{contours}
 use Rattle.bc_formula.specs.MeshGeometry.{meshes}
 use Rattle.bc_formula.specs.Headline.{IsFormula}
 use Rattle.bc_formula.specs.Divisions.{IsDivision, IsMadeOf}
-use Rattle.bc_formula.specs.Tallies.{is_disc}
+use Rattle.bc_formula.specs.declared.part_counts.PartCounts.{PartCounts}
+use Rattle.bc_formula.specs.Tallies.{AreParted, counts_of_parts, is_disc}
 use Rattle.bc_formula.proofs.Described.{described_by}
 use Rattle.bc_formula.proofs.Formulas.{formula_made}
 use Rattle.bc_formula.proofs.Counted.{notes_counted, parts_counted, curves_counted, planes_counted}
@@ -97,9 +102,30 @@ pub became_memory : (f : NatFault) (s : Status) → f ≡ limits.Memory → Beco
 became_memory f s few (inl (e, is)) = is
 became_memory f s few (inr (some, is)) = absurd (some few)
 
+-- ---- contours have one box
+
+one_least : (P : ℤ → Type 0) (x y : ℤ) → IsLeast P (x +ℤ pos 1) → IsLeast P (y +ℤ pos 1) → x ≡ y
+one_least P x y h k =
+    let a = h.least (y +ℤ pos 1) k.is in
+    let b = k.least (x +ℤ pos 1) h.is in
+    omega (arith, ints)
+
+one_greatest : (P : ℤ → Type 0) (x y : ℤ) → IsGreatest P (x -ℤ pos 1) → IsGreatest P (y -ℤ pos 1) → x ≡ y
+one_greatest P x y h k =
+    let a = h.greatest (y -ℤ pos 1) k.is in
+    let b = k.greatest (x -ℤ pos 1) h.is in
+    omega (arith, ints)
+
+one_box2 : (es : List Element) (b c : Box2) → IsBoxOf es b → IsBoxOf es c → b ≡ c
+one_box2 [] b c h k = box2_same b c (h.left ∙ sym k.left) (h.bottom ∙ sym k.bottom) (h.right ∙ sym k.right) (h.top ∙ sym k.top)
+one_box2 (e ∷ es) b c h k =
+    box2_same b c
+    (one_least (λ z. Any (λ f. IsXOf f z) (e ∷ es)) b.x0 c.x0 h.left k.left) (one_least (λ z. Any (λ f. IsYOf f z) (e ∷ es)) b.y0 c.y0 h.bottom k.bottom)
+    (one_greatest (λ z. Any (λ f. IsXOf f z) (e ∷ es)) b.x1 c.x1 h.right k.right) (one_greatest (λ z. Any (λ f. IsYOf f z) (e ∷ es)) b.y1 c.y1 h.top k.top)
+
 -- ---- what is counted
 
-module _ {B P X : Type 0} (k : Geometry B P X) (g : Grammar B) (bytes : List ℕ) (b : B) (of_bytes : g.of_text bytes b) (box : X) (d : Division) (f : Formula) (is : IsDivision k b box d) (made : IsMadeOf d f) where
+module _ {B P X : Type 0} (k : Geometry B P X) (g : Grammar B) (bytes : List ℕ) (b : B) (of_bytes : g.of_text bytes b) (box : X) (d : Division) (f : Formula) (p : PartCounts) (parted : AreParted k b box p.parts p.inside) (is : IsDivision k k.lean_mask b box d) (made : IsMadeOf d f) where
   abbrev formula : IsFormula k b box (shape f.tree) f.notes.items
   formula = (formula_made k b box d f is made).1
 
@@ -114,10 +140,10 @@ module _ {B P X : Type 0} (k : Geometry B P X) (g : Grammar B) (bytes : List ℕ
     described = described_by k b box (shape f.tree) f.notes.items (layout f.head f.notes.items (shape f.tree)) formula (ap (λ (h : Head). layout h f.notes.items (shape f.tree)) head_is);
   }
 
-  counted : AreCounts k g converted (counts_of d f)
+  counted : AreCounts k g converted (counts_of p f)
   counted =
       let notes = notes_counted k b box formula.normal.leaves formula.normal.products f.notes.items formula.says in
-      record { parts = parts_counted k b box d is; terms = notes.0; literals = notes.1; undecided = refl }
+      record { parts = parted; terms = notes.0; literals = notes.1; undecided = refl }
 
 -- ---- meshes
 
@@ -139,20 +165,21 @@ module _ (n : ℕ) (input : IsMeshInput (off_text n)) where
   planes_few fs (limits.TooManyLines m) h past = absurd past
   planes_few fs (limits.TooManyDiscs m) h past = absurd past
 
-pub mesh_trialled : (n : ℕ) (fs : List Facet) (box : Box3) (d : Division) (f : Formula) (summary : List ℕ) → HasSolid (off_text n) fs → IsDivision meshes fs box d → IsMadeOf d f
-    → summary ≡ mesh_summary n (length (filter (λ (l : Leaf). not (is_disc l)) d.leaves)) (counts_of d f)
+pub mesh_trialled : (n : ℕ) (fs : List Facet) (box : Box3) (d : Division) (f : Formula) (summary : List ℕ) → HasSolid (off_text n) fs → IsDivision meshes meshes.has_mask fs box d → IsMadeOf d f
+    → summary ≡ mesh_summary n (length (filter (λ (l : Leaf). not (is_disc l)) d.leaves)) (counts_of (counts_of_parts d) f)
     → IsMeshTrial n (layout f.head f.notes.items (shape f.tree) ++ summary)
 mesh_trialled n fs box d f summary h is made e =
     let leaves = is.bits.of_input in
+    let parted = parts_counted meshes fs box d is in
     let planes : length (filter (λ (l : Leaf). not (is_disc l)) d.leaves) ≡ length leaves.table = ap (λ (ls : List Leaf). length (filter (λ (l : Leaf). not (is_disc l)) ls)) leaves.leaves_are ∙ planes_counted leaves.table in
     record {
       csg = layout f.head f.notes.items (shape f.tree);
-      converted = converted meshes mesh_texts (off_text n) fs h box d f is made;
-      counts = counts_of d f;
-      counted = counted meshes mesh_texts (off_text n) fs h box d f is made;
+      converted = converted meshes mesh_texts (off_text n) fs h box d f (counts_of_parts d) parted is made;
+      counts = counts_of (counts_of_parts d) f;
+      counted = counted meshes mesh_texts (off_text n) fs h box d f (counts_of_parts d) parted is made;
       table = leaves.table;
       of_input = leaves.of_input;
-      whole = ap (λ (l : List ℕ). layout f.head f.notes.items (shape f.tree) ++ l) (e ∙ ap (λ m. mesh_summary n m (counts_of d f)) planes);
+      whole = ap (λ (l : List ℕ). layout f.head f.notes.items (shape f.tree) ++ l) (e ∙ ap (λ m. mesh_summary n m (counts_of (counts_of_parts d) f)) planes);
     }
 
 -- ---- contours
@@ -177,20 +204,21 @@ module _ (n : ℕ) (input : IsContourInput (contour_text n)) where
   curves_few es (limits.TooManyLines m) h (t, of_input, e, more) = absurd (omega (arith, (few_of es h t of_input).lines, e, more))
   curves_few es (limits.TooManyDiscs m) h (t, of_input, kept, e, more) = absurd (omega (arith, (few_of es h t of_input).discs, e, more))
 
-pub contours_trialled : (n : ℕ) (es : List Element) (box : Box2) (d : Division) (f : Formula) (summary : List ℕ) → HasProfile (contour_text n) es → IsDivision contours es box d → IsMadeOf d f
-    → summary ≡ contour_summary n (length (filter (λ (l : Leaf). not (is_disc l)) d.leaves)) (length (filter is_disc d.leaves)) (counts_of d f)
+pub contours_trialled : (n : ℕ) (es : List Element) (box other : Box2) (p : PartCounts) (d : Division) (f : Formula) (summary : List ℕ) → HasProfile (contour_text n) es → IsBoxOf es other → AreParted contours es other p.parts p.inside → IsDivision contours contours.lean_mask es box d → IsMadeOf d f
+    → summary ≡ contour_summary n (length (filter (λ (l : Leaf). not (is_disc l)) d.leaves)) (length (filter is_disc d.leaves)) (counts_of p f)
     → IsContourTrial n (layout f.head f.notes.items (shape f.tree) ++ summary)
-contours_trialled n es box d f summary h is made e =
+contours_trialled n es box other p d f summary h box_of counted_in is made e =
+    let parted = subst (λ (b : Box2). AreParted contours es b p.parts p.inside) (one_box2 es other box box_of is.bits.box_of) counted_in in
     let leaves = is.bits.of_input in
     let counts = curves_counted leaves.table in
     let lines : length (filter (λ (l : Leaf). not (is_disc l)) d.leaves) ≡ length leaves.table.lines = ap (λ (ls : List Leaf). length (filter (λ (l : Leaf). not (is_disc l)) ls)) leaves.leaves_are ∙ counts.1 in
     let discs : length (filter is_disc d.leaves) ≡ length leaves.table.discs = ap (λ (ls : List Leaf). length (filter is_disc ls)) leaves.leaves_are ∙ counts.0 in
     record {
       csg = layout f.head f.notes.items (shape f.tree);
-      converted = converted contours contour_texts (contour_text n) es h box d f is made;
-      counts = counts_of d f;
-      counted = counted contours contour_texts (contour_text n) es h box d f is made;
+      converted = converted contours contour_texts (contour_text n) es h box d f p parted is made;
+      counts = counts_of p f;
+      counted = counted contours contour_texts (contour_text n) es h box d f p parted is made;
       table = leaves.table;
       of_input = leaves.of_input;
-      whole = ap (λ (l : List ℕ). layout f.head f.notes.items (shape f.tree) ++ l) (e ∙ ap (λ m. contour_summary n m (length (filter is_disc d.leaves)) (counts_of d f)) lines ∙ ap (λ m. contour_summary n (length leaves.table.lines) m (counts_of d f)) discs);
+      whole = ap (λ (l : List ℕ). layout f.head f.notes.items (shape f.tree) ++ l) (e ∙ ap (λ m. contour_summary n m (length (filter is_disc d.leaves)) (counts_of p f)) lines ∙ ap (λ m. contour_summary n (length leaves.table.lines) m (counts_of p f)) discs);
     }

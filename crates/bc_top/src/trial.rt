@@ -16,7 +16,9 @@ use crate::command::Kind;
 use crate::convert::put_formula;
 use crate::streams::put_text;
 use crate::summary::{contour_summary, mesh_summary};
-use bc_formula::{Formula, contour_division, formula_of, mesh_division};
+use bc_formula::{
+    Formula, Masks, contour_division, contour_part_counts, formula_of, mesh_division,
+};
 use bc_io::Sink;
 use bc_status::Status;
 use bc_trial::laws::{contour_law, off_law};
@@ -60,9 +62,11 @@ fn trial_of_contours(alloc: Global, n: u32) -> Result<Written, Status>
     contour_law();
     let text = trial_contour(alloc, n)?;
     let profile = parse_profile(alloc, text.as_slice())?;
-    let division = contour_division(alloc, &profile)?;
+    // All candidates are counted, and the text is made of the lean ones.
+    let parts = contour_part_counts(alloc, &profile)?;
+    let division = contour_division(alloc, &profile, Masks::Lean)?;
     let formula = formula_of(alloc, &division)?;
-    let summary = contour_summary(alloc, n, &division, &formula)?;
+    let summary = contour_summary(alloc, n, &division, parts, &formula)?;
     Ok(Written { formula, summary })
 }
 

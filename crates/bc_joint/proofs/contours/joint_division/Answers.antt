@@ -24,6 +24,6 @@ returns-clause-ok c =
     let joint = joint_bits c.args.joint.now box t known.table (table_is c.args.joint.now t known.table) known.sized known.few c.box2-tile.ensures.box_of c.box2-tile.ensures.near c.outside_law2.ensures in
     let bits = bits_of op p box t (subst (λ (es : List Element). AreBits contours es box (leaves_of t) (curve_mask t)) c.requires joint) c.outside_pair_law.ensures in (
       box,
-      subst (λ (ls : List Leaf). IsDivision (contour_pairs op) p box (record { block = Tile box; head = Contour box; leaves = ls; inside = c.in_ok-parts.parts.inside; outside = c.in_ok-parts.parts.outside })) (sym c.in_ok-leaves.ensures)
+      subst (λ (ls : List Leaf). IsDivision (contour_pairs op) (contour_pairs op).lean_mask p box (record { block = Tile box; head = Contour box; leaves = ls; inside = c.in_ok-parts.parts.inside; outside = c.in_ok-parts.parts.outside })) (sym c.in_ok-leaves.ensures)
           (record { block = refl; head = refl; mask_at = curve_mask t; bits = bits; boxed = refl; half_spaces = half_spaces2 t; masks = c.in_ok-parts.ensures.masks; divided = c.in_ok-parts.ensures.divided; parts = c.in_ok-parts.ensures.parts }),
     )

@@ -23,6 +23,6 @@ returns-clause-ok c =
     let joint = joint_bits c.args.joint.now box t c.law.ensures known.table known.sized known.few c.box3-block.ensures.box_of c.box3-block.ensures.near c.outside_law3.ensures in
     let bits = bits_of op p box t (subst (λ (fs : List Facet). AreBits meshes fs box (slabs_of t) (plane_mask t)) c.requires joint) c.outside_pair_law.ensures in (
       box,
-      subst (λ (ls : List Leaf). IsDivision (mesh_pairs op) p box (record { block = Block box; head = Solid box; leaves = ls; inside = c.in_ok-parts.parts.inside; outside = c.in_ok-parts.parts.outside })) (sym c.in_ok-slabs.ensures)
+      subst (λ (ls : List Leaf). IsDivision (mesh_pairs op) (mesh_pairs op).lean_mask p box (record { block = Block box; head = Solid box; leaves = ls; inside = c.in_ok-parts.parts.inside; outside = c.in_ok-parts.parts.outside })) (sym c.in_ok-slabs.ensures)
           (record { block = refl; head = refl; mask_at = plane_mask t; bits = bits; boxed = refl; half_spaces = half_spaces3 t; masks = c.in_ok-parts.ensures.masks; divided = c.in_ok-parts.ensures.divided; parts = c.in_ok-parts.ensures.parts }),
     )
