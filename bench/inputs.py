@@ -5,6 +5,7 @@ import sys
 from pathlib import Path
 
 import counts
+from outlines import circle, oblong, path, ring
 
 EXAMPLES = Path(__file__).resolve().parent.parent / "examples"
 sys.path.append(str(EXAMPLES))
@@ -19,6 +20,11 @@ class Boundary:
     def __init__(self, kind, text):
         self.kind, self.text = kind, text
 
+    def contours(self):
+        """Its elements over whole numbers."""
+        whole = lambda p: p and tuple(map(int, p))
+        return [[(whole(p), whole(q), whole(c), turn) for p, q, c, turn in contour] for contour in boundaries.contours(self.text)]
+
     def numbers(self):
         """Its half-spaces, and its cells or candidates, for the table."""
         if self.kind == "off":
@@ -26,10 +32,13 @@ class Boundary:
             places = [tuple(map(int, p)) for p in places]
             planes = counts.planes_of(places, faces)
             return f"{len(planes)} planes", counts.cells_of(planes, counts.block_of(places, faces)) if planes else 1
-        whole = lambda p: p and tuple(map(int, p))
-        read = [[(whole(p), whole(q), whole(c), turn) for p, q, c, turn in contour] for contour in boundaries.contours(self.text)]
-        lines, discs = counts.lines_of(read), counts.discs_of(read)
-        return f"{len(lines)} lines, {len(discs)} discs", counts.candidates_of(lines, discs, counts.tile_of(read))
+        lines, discs, tile = self.arrangement()
+        return f"{len(lines)} lines, {len(discs)} discs", counts.candidates_of(lines, discs, tile)
+
+    def arrangement(self):
+        """The lines, the discs and the box of contours."""
+        read = self.contours()
+        return counts.lines_of(read), counts.discs_of(read), counts.tile_of(read)
 
 
 class Case:
@@ -45,22 +54,6 @@ class Case:
 
 
 # ---- contours
-
-
-def ring(corners, radius=1000):
-    """Whole places round the origin, almost evenly."""
-    turns = [2 * math.pi * i / corners for i in range(corners)]
-    return [(round(radius * math.cos(turn)), round(radius * math.sin(turn))) for turn in turns]
-
-
-def path(places):
-    """The edges round these places, as blocks."""
-    x, y = places[-1]
-    return "".join([f"G00 X{x} Y{y}\n", *(f"G01 X{x} Y{y}\n" for x, y in places)])
-
-
-def circle(x, y, radius):
-    return f"G00 X{x + radius} Y{y}\nG03 X{x + radius} Y{y} I{-radius} J0\n"
 
 
 def star(lines):
@@ -151,10 +144,6 @@ def raised(outline, low, high):
     count = len(outline)
     sides = [[k, (k + 1) % count, count + (k + 1) % count, count + k] for k in range(count)]
     return [(x, y, z) for z in (low, high) for x, y in outline], [list(range(count)), list(range(count, 2 * count)), *sides]
-
-
-def oblong(x0, y0, x1, y1):
-    return [(x0, y0), (x1, y0), (x1, y1), (x0, y1)]
 
 
 def box(x0, y0, z0, x1, y1, z1):
