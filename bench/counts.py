@@ -1,5 +1,5 @@
 """Counts what a conversion makes of a boundary, over whole numbers and by the definitions: distinct lines, discs and planes,
-the cells of planes within the box, the candidates of lines and discs; and the terms and literals of a text."""
+the cells of planes within the box, the candidates of lines and discs; and what a text has."""
 from fractions import Fraction
 from math import gcd, isqrt
 
@@ -237,8 +237,8 @@ def meet(p, q, r):
 # ---- texts
 
 
-def terms_and_literals(text):
-    """How many terms a text has, and how many leaves besides the box of each."""
-    lines = text.splitlines()
-    terms = sum(line.endswith("difference() {") for line in lines)
-    return terms, sum(line.endswith(";") for line in lines) - terms
+def of_text(text):
+    """What a text, as bytes, has: terms, literals (leaves besides the box of each term), leaves, and notes without a point."""
+    terms, leaves = text.count(b"difference() {\n"), text.count(b";\n")
+    undecided = text.count(b" undecided\n")
+    return {"Terms": terms, "Literals": leaves - terms, "Leaves": leaves, "Undecided": undecided}

@@ -5,6 +5,7 @@ import sys
 from pathlib import Path
 
 import counts
+import parts
 from outlines import circle, oblong, path, ring
 
 EXAMPLES = Path(__file__).resolve().parent.parent / "examples"
@@ -25,6 +26,12 @@ class Boundary:
         whole = lambda p: p and tuple(map(int, p))
         return [[(whole(p), whole(q), whole(c), turn) for p, q, c, turn in contour] for contour in boundaries.contours(self.text)]
 
+    def sort(self):
+        """Of which inputs it is one, for the sums."""
+        if self.kind == "off":
+            return "meshes"
+        return "contours with arcs" if any(element[2] for contour in self.contours() for element in contour) else "straight contours"
+
     def numbers(self):
         """Its half-spaces, and its cells or candidates, for the table."""
         if self.kind == "off":
@@ -44,8 +51,9 @@ class Boundary:
 class Case:
     """A named input: the bytes that a command reads, the boundary whose numbers the table has, and words of the case's own."""
 
-    def __init__(self, name, make, boundary=None, words=()):
+    def __init__(self, name, make, boundary=None, words=(), sort=None):
         self.name, self.make, self.boundary, self.words = name, make, boundary, list(words)
+        self.sort = sort or boundary.sort()
 
     def bytes(self):
         """The input, or None where there is none: it is to be made from a text that the program refused to write."""
@@ -110,6 +118,10 @@ def contour_cases():
         ("star of 40 lines, 10 discs nearly one", star(40) + near(10, 84)),
     ]
     return [(name, Boundary("contour", text + "M30\n")) for name, text in texts]
+
+
+def part_cases():
+    return [(name, Boundary("contour", text)) for name, text in parts.texts()]
 
 
 # ---- meshes
@@ -265,7 +277,7 @@ def numbered(kind, least, most, text_of):
 
 
 def of_texts(cases, texts, words=()):
-    return [Case("the text of: " + name, lambda it=it: texts.of(it), None, words) for name, it in cases]
+    return [Case("the text of: " + name, lambda it=it: texts.of(it), None, words, it.sort()) for name, it in cases]
 
 
 def joined(first, second):
@@ -277,13 +289,17 @@ def audited(cases, texts):
 
 
 def pairs(cases):
-    return [Case(name, lambda stream=joined(first, second.encode()): stream, whole) for name, first, second, whole in cases]
+    return [Case(name, lambda stream=joined(first, second.encode()): stream, whole, (), sort) for name, first, second, whole, sort in cases]
 
 
-def layers(count):
-    """Stars with a few discs, one on the other."""
-    section = star(24) + crossing(3, 500)
+def layers(count, section):
+    """A section many times, one on the other."""
     return "".join(f"LAYER {k} {k + 1}\n{section}" for k in range(count))
+
+
+def prism_cases():
+    sections = [("star of 24 lines, 3 discs across", star(24) + crossing(3, 500)), ("star of 40 lines, 10 discs nearly one", star(40) + near(10, 84))]
+    return [Case(f"64 layers: {name}", lambda it=it: layers(64, it), sort="contours with arcs") for name, it in sections]
 
 
 def commands(texts):
@@ -303,9 +319,9 @@ def commands(texts):
         (["ask"], of_texts(contours[-7:-3], texts, flat) + of_texts(meshes[3:6], texts, solid)),
         (["upgrade"], of_texts(contours[-7:-3], texts) + of_texts(meshes[3:6], texts)),
         (["audit"], audited(meshes, texts)),
-        (["combine", "union", "contour"], pairs([("two tangles of 20 lines", *tangles, Boundary("contour", "".join(tangles)))])),
-        (["combine", "union", "off"], pairs([("twice 5 tetrahedra", tetrahedra(5, 1), tetrahedra(5, 2), None)])),
-        (["prism"], [Case("64 layers: star of 24 lines, 3 discs across", lambda: layers(64))]),
+        (["combine", "union", "contour"], pairs([("two tangles of 20 lines", *tangles, Boundary("contour", "".join(tangles)), None)])),
+        (["combine", "union", "off"], pairs([("twice 5 tetrahedra", tetrahedra(5, 1), tetrahedra(5, 2), None, "meshes")])),
+        (["prism"], prism_cases()),
     ]
 
 
