@@ -1,13 +1,7 @@
-#!/usr/bin/env python3
 """Parts with arcs, as a shop makes them, each a contour text from a function of its own; bench/run counts what is made of them.
 
 Arcs begin and end at whole places, mostly of circles that go through many: (63, 16), (60, 25), (56, 33) and (52, 39) are on
-that of radius 65. Called as a program it writes each part, as NAME.ngc, into a folder: bench/parts.py FOLDER"""
-import sys
-from pathlib import Path
-
-# (the scripts leave nothing behind)
-sys.dont_write_bytecode = True
+that of radius 65, and so is each that is mirrored."""
 from outlines import Arc, circle, oblong, outline, path
 
 ORIGIN = (0, 0)
@@ -217,8 +211,3 @@ PARTS = [
 def texts():
     """The name of each part, and its contour text."""
     return [(make.__name__.replace("_", " "), make() + "M30\n") for make in PARTS]
-
-
-if __name__ == "__main__":
-    for title, text in texts():
-        Path(sys.argv[1], title.replace(" ", "_") + ".ngc").write_text(text)
