@@ -2,9 +2,11 @@
 import math
 import random
 import sys
+from functools import cached_property
 from pathlib import Path
 
 import counts
+import masks
 import parts
 from outlines import circle, oblong, path, ring
 
@@ -32,15 +34,22 @@ class Boundary:
             return "meshes"
         return "contours with arcs" if any(element[2] for contour in self.contours() for element in contour) else "straight contours"
 
+    @cached_property
     def numbers(self):
-        """Its half-spaces, and its cells or candidates, for the table."""
+        """For the table: its half-spaces, and its cells; of contours its candidates, the kept ones, and those with a free point."""
         if self.kind == "off":
             places, faces = boundaries.mesh(self.text)
             places = [tuple(map(int, p)) for p in places]
             planes = counts.planes_of(places, faces)
-            return f"{len(planes)} planes", counts.cells_of(planes, counts.block_of(places, faces)) if planes else 1
+            return [f"{len(planes)} planes", counts.cells_of(planes, counts.block_of(places, faces)) if planes else 1]
         lines, discs, tile = self.arrangement()
-        return f"{len(lines)} lines, {len(discs)} discs", counts.candidates_of(lines, discs, tile)
+        kept, free = self.masks
+        return [f"{len(lines)} lines, {len(discs)} discs", counts.candidates_of(lines, discs, tile), len(kept), len(free)]
+
+    @cached_property
+    def masks(self):
+        """The masks of the kept candidates of contours, and those of their free points: two counts that share no code."""
+        return counts.kept_of(*self.arrangement()), masks.free_masks(self.contours())
 
     def arrangement(self):
         """The lines, the discs and the box of contours."""

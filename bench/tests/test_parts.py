@@ -1,4 +1,5 @@
-"""The parts with arcs are what they say: closed, with arcs of one radius, and within the limits of a conversion."""
+"""The parts with arcs are closed and within the limits of a conversion, and nearly all that is kept of them has a point:
+python3 -m unittest discover bench/tests"""
 import sys
 import unittest
 from pathlib import Path
@@ -33,6 +34,15 @@ class Parts(unittest.TestCase):
                 self.assertLessEqual(len(lines), 40)
                 self.assertIn(len(circles), range(1, 11))
                 self.assertLessEqual(max(abs(x) for contour in contours for start, _, _, _ in contour for x in start), 1023)
+
+    def test_no_mask_with_a_free_point_is_lost_and_few_others_are_kept(self):
+        same = 0
+        for name, boundary in inputs.part_cases():
+            kept, free = boundary.masks
+            with self.subTest(name):
+                self.assertLessEqual(free, kept)
+            same += kept == free
+        self.assertEqual(same, 22)
 
 
 if __name__ == "__main__":
