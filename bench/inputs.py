@@ -286,7 +286,7 @@ def numbered(kind, least, most, text_of):
 
 
 def of_texts(cases, texts, words=()):
-    return [Case("the text of: " + name, lambda it=it: texts.of(it), None, words, it.sort()) for name, it in cases]
+    return [Case(f"the text of: {name}", lambda it=it: texts.of(it), None, words, it.sort()) for name, it in cases]
 
 
 def joined(first, second):
@@ -298,7 +298,8 @@ def audited(cases, texts):
 
 
 def pairs(cases):
-    return [Case(name, lambda stream=joined(first, second.encode()): stream, whole, (), sort) for name, first, second, whole, sort in cases]
+    stream_of = lambda first, second: lambda: joined(first, second.encode())
+    return [Case(name, stream_of(first, second), whole, (), sort) for name, first, second, whole, sort in cases]
 
 
 def layers(count, section):
@@ -307,7 +308,10 @@ def layers(count, section):
 
 
 def prism_cases():
-    sections = [("star of 24 lines, 3 discs across", star(24) + crossing(3, 500)), ("star of 40 lines, 10 discs nearly one", star(40) + near(10, 84))]
+    sections = [
+        ("star of 24 lines, 3 discs across", star(24) + crossing(3, 500)),
+        ("star of 40 lines, 10 discs nearly one", star(40) + near(10, 84)),
+    ]
     return [Case(f"64 layers: {name}", lambda it=it: layers(64, it), sort="contours with arcs") for name, it in sections]
 
 
@@ -316,6 +320,7 @@ def commands(texts):
     contours, meshes = contour_cases(), mesh_cases()
     flat, solid = ("1", "2", "0", "3"), ("1", "2", "5", "3")
     tangles = tangle(20, 1), tangle(20, 2)
+    both = Boundary("contour", "".join(tangles))
     return [
         (["convert", "contour"], plain(contours)),
         (["convert", "off"], plain(meshes)),
@@ -328,7 +333,7 @@ def commands(texts):
         (["ask"], of_texts(contours[-7:-3], texts, flat) + of_texts(meshes[3:6], texts, solid)),
         (["upgrade"], of_texts(contours[-7:-3], texts) + of_texts(meshes[3:6], texts)),
         (["audit"], audited(meshes, texts)),
-        (["combine", "union", "contour"], pairs([("two tangles of 20 lines", *tangles, Boundary("contour", "".join(tangles)), None)])),
+        (["combine", "union", "contour"], pairs([("two tangles of 20 lines", *tangles, both, None)])),
         (["combine", "union", "off"], pairs([("twice 5 tetrahedra", tetrahedra(5, 1), tetrahedra(5, 2), None, "meshes")])),
         (["prism"], prism_cases()),
     ]

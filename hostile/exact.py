@@ -32,7 +32,8 @@ def crossings_of_arc(start, end, centre, turn, point):
         return 0
     past_upper, past_lower = is_above_root(y - centre[1] * w, under)
     first, last = (start, end) if turn > 0 else (end, start)
-    return sum(past > 0 and has_column_point(first, last, centre, ahead, under, w, half) for past, half in ((past_upper, 1), (past_lower, -1)))
+    has = lambda half: has_column_point(first, last, centre, ahead, under, w, half)
+    return (past_upper > 0 and has(1)) + (past_lower > 0 and has(-1))
 
 
 def has_column_point(first, last, centre, ahead, under, w, half):
