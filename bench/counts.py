@@ -1,5 +1,5 @@
 """Counts what a conversion makes of a boundary, over whole numbers and by the definitions: distinct lines, discs and planes,
-the cells of planes within the box, the candidates of lines and discs; and the terms and literals of a text."""
+the cells of planes within the box, the candidates of lines and discs; and what a text has."""
 from fractions import Fraction
 from math import gcd, isqrt
 
@@ -109,15 +109,51 @@ def lawful_sets(discs):
     return [s for s in range(1 << len(discs)) if all(holds(s, i) for i in range(len(discs)) if s >> i & 1)]
 
 
-def candidates_of(lines, discs, tile):
-    """How many regions with sets of discs no rule drops."""
-    sets, count = lawful_sets(discs), 0
+def divided(lines, discs, tile):
+    """Each region with the sets of discs that no rule drops: its corners, its mask, and the sets as numbers."""
+    sets = lawful_sets(discs)
     above, below = ([bits(is_beyond(line, d, sign) for line in lines) for d in discs] for sign in (1, -1))
     for corners, mask in regions_of(lines, tile):
         due = bits(is_around(corners, d) for d in discs)
         none = bits(above[i] & ~mask or below[i] & mask for i in range(len(discs)))
-        count += sum(s & due == due and s & none == 0 for s in sets)
-    return count
+        yield corners, mask, [s for s in sets if s & due == due and s & none == 0]
+
+
+def candidates_of(lines, discs, tile):
+    """How many regions with sets of discs no rule drops."""
+    return sum(len(sets) for _, _, sets in divided(lines, discs, tile))
+
+
+def depth(d, corner):
+    """How far a corner is past the circle of a disc: the distances squared, times w squared."""
+    x, y, w = corner
+    return (x - d[0] * w) ** 2 + (y - d[1] * w) ** 2 - d[2] * w * w
+
+
+def is_missed(corners, d):
+    """Whether some corner v is not strictly inside a disc, and no corner is nearer to its centre c along the way from c to v."""
+
+    def is_nearest(v):
+        ahead = (v[0] - d[0] * v[2], v[1] - d[1] * v[2])
+        return all(dot(ahead, (q[0] * v[2] - v[0] * q[2], q[1] * v[2] - v[1] * q[2])) >= 0 for q in corners)
+
+    return any(depth(d, v) >= 0 and is_nearest(v) for v in corners)
+
+
+def is_exceeded(corners, d, e):
+    """Whether each corner is at least as deep in the disc e as in d, so that what is in d is in e too."""
+    return all(depth(e, q) <= depth(d, q) for q in corners)
+
+
+def kept_of(lines, discs, tile):
+    """The masks of the candidates that are left where a missed disc, and one that another exceeds which is left out, are too."""
+    kept, number = set(), range(len(discs))
+    for corners, mask, sets in divided(lines, discs, tile):
+        missed = bits(is_missed(corners, d) for d in discs)
+        wants = [bits(i != j and is_exceeded(corners, d, e) for j, e in enumerate(discs)) for i, d in enumerate(discs)]
+        lean = (s for s in sets if s & missed == 0 and all(wants[i] & ~s == 0 for i in number if s >> i & 1))
+        kept.update(mask | s << len(lines) for s in lean)
+    return kept
 
 
 # ---- meshes
@@ -201,8 +237,8 @@ def meet(p, q, r):
 # ---- texts
 
 
-def terms_and_literals(text):
-    """How many terms a text has, and how many leaves besides the box of each."""
-    lines = text.splitlines()
-    terms = sum(line.endswith("difference() {") for line in lines)
-    return terms, sum(line.endswith(";") for line in lines) - terms
+def of_text(text):
+    """What a text, as bytes, has: terms, literals (leaves besides the box of each term), leaves, and notes without a point."""
+    terms, leaves = text.count(b"difference() {\n"), text.count(b";\n")
+    undecided = text.count(b" undecided\n")
+    return {"Terms": terms, "Literals": leaves - terms, "Leaves": leaves, "Undecided": undecided}

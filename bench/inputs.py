@@ -2,9 +2,13 @@
 import math
 import random
 import sys
+from functools import cached_property
 from pathlib import Path
 
 import counts
+import masks
+import parts
+from outlines import circle, oblong, path, ring
 
 EXAMPLES = Path(__file__).resolve().parent.parent / "examples"
 sys.path.append(str(EXAMPLES))
@@ -19,24 +23,46 @@ class Boundary:
     def __init__(self, kind, text):
         self.kind, self.text = kind, text
 
+    def contours(self):
+        """Its elements over whole numbers."""
+        whole = lambda p: p and tuple(map(int, p))
+        return [[(whole(p), whole(q), whole(c), turn) for p, q, c, turn in contour] for contour in boundaries.contours(self.text)]
+
+    def sort(self):
+        """Of which inputs it is one, for the sums."""
+        if self.kind == "off":
+            return "meshes"
+        return "contours with arcs" if any(element[2] for contour in self.contours() for element in contour) else "straight contours"
+
+    @cached_property
     def numbers(self):
-        """Its half-spaces, and its cells or candidates, for the table."""
+        """For the table: its half-spaces, and its cells; of contours its candidates, the kept ones, and those with a free point."""
         if self.kind == "off":
             places, faces = boundaries.mesh(self.text)
             places = [tuple(map(int, p)) for p in places]
             planes = counts.planes_of(places, faces)
-            return f"{len(planes)} planes", counts.cells_of(planes, counts.block_of(places, faces)) if planes else 1
-        whole = lambda p: p and tuple(map(int, p))
-        read = [[(whole(p), whole(q), whole(c), turn) for p, q, c, turn in contour] for contour in boundaries.contours(self.text)]
-        lines, discs = counts.lines_of(read), counts.discs_of(read)
-        return f"{len(lines)} lines, {len(discs)} discs", counts.candidates_of(lines, discs, counts.tile_of(read))
+            return [f"{len(planes)} planes", counts.cells_of(planes, counts.block_of(places, faces)) if planes else 1]
+        lines, discs, tile = self.arrangement()
+        kept, free = self.masks
+        return [f"{len(lines)} lines, {len(discs)} discs", counts.candidates_of(lines, discs, tile), len(kept), len(free)]
+
+    @cached_property
+    def masks(self):
+        """The masks of the kept candidates of contours, and those of their free points: two counts that share no code."""
+        return counts.kept_of(*self.arrangement()), masks.free_masks(self.contours())
+
+    def arrangement(self):
+        """The lines, the discs and the box of contours."""
+        read = self.contours()
+        return counts.lines_of(read), counts.discs_of(read), counts.tile_of(read)
 
 
 class Case:
     """A named input: the bytes that a command reads, the boundary whose numbers the table has, and words of the case's own."""
 
-    def __init__(self, name, make, boundary=None, words=()):
+    def __init__(self, name, make, boundary=None, words=(), sort=None):
         self.name, self.make, self.boundary, self.words = name, make, boundary, list(words)
+        self.sort = sort or boundary.sort()
 
     def bytes(self):
         """The input, or None where there is none: it is to be made from a text that the program refused to write."""
@@ -45,22 +71,6 @@ class Case:
 
 
 # ---- contours
-
-
-def ring(corners, radius=1000):
-    """Whole places round the origin, almost evenly."""
-    turns = [2 * math.pi * i / corners for i in range(corners)]
-    return [(round(radius * math.cos(turn)), round(radius * math.sin(turn))) for turn in turns]
-
-
-def path(places):
-    """The edges round these places, as blocks."""
-    x, y = places[-1]
-    return "".join([f"G00 X{x} Y{y}\n", *(f"G01 X{x} Y{y}\n" for x, y in places)])
-
-
-def circle(x, y, radius):
-    return f"G00 X{x + radius} Y{y}\nG03 X{x + radius} Y{y} I{-radius} J0\n"
 
 
 def star(lines):
@@ -119,6 +129,10 @@ def contour_cases():
     return [(name, Boundary("contour", text + "M30\n")) for name, text in texts]
 
 
+def part_cases():
+    return [(name, Boundary("contour", text)) for name, text in parts.texts()]
+
+
 # ---- meshes
 
 
@@ -151,10 +165,6 @@ def raised(outline, low, high):
     count = len(outline)
     sides = [[k, (k + 1) % count, count + (k + 1) % count, count + k] for k in range(count)]
     return [(x, y, z) for z in (low, high) for x, y in outline], [list(range(count)), list(range(count, 2 * count)), *sides]
-
-
-def oblong(x0, y0, x1, y1):
-    return [(x0, y0), (x1, y0), (x1, y1), (x0, y1)]
 
 
 def box(x0, y0, z0, x1, y1, z1):
@@ -276,7 +286,7 @@ def numbered(kind, least, most, text_of):
 
 
 def of_texts(cases, texts, words=()):
-    return [Case("the text of: " + name, lambda it=it: texts.of(it), None, words) for name, it in cases]
+    return [Case(f"the text of: {name}", lambda it=it: texts.of(it), None, words, it.sort()) for name, it in cases]
 
 
 def joined(first, second):
@@ -288,13 +298,21 @@ def audited(cases, texts):
 
 
 def pairs(cases):
-    return [Case(name, lambda stream=joined(first, second.encode()): stream, whole) for name, first, second, whole in cases]
+    stream_of = lambda first, second: lambda: joined(first, second.encode())
+    return [Case(name, stream_of(first, second), whole, (), sort) for name, first, second, whole, sort in cases]
 
 
-def layers(count):
-    """Stars with a few discs, one on the other."""
-    section = star(24) + crossing(3, 500)
+def layers(count, section):
+    """A section many times, one on the other."""
     return "".join(f"LAYER {k} {k + 1}\n{section}" for k in range(count))
+
+
+def prism_cases():
+    sections = [
+        ("star of 24 lines, 3 discs across", star(24) + crossing(3, 500)),
+        ("star of 40 lines, 10 discs nearly one", star(40) + near(10, 84)),
+    ]
+    return [Case(f"64 layers: {name}", lambda it=it: layers(64, it), sort="contours with arcs") for name, it in sections]
 
 
 def commands(texts):
@@ -302,6 +320,7 @@ def commands(texts):
     contours, meshes = contour_cases(), mesh_cases()
     flat, solid = ("1", "2", "0", "3"), ("1", "2", "5", "3")
     tangles = tangle(20, 1), tangle(20, 2)
+    both = Boundary("contour", "".join(tangles))
     return [
         (["convert", "contour"], plain(contours)),
         (["convert", "off"], plain(meshes)),
@@ -314,9 +333,9 @@ def commands(texts):
         (["ask"], of_texts(contours[-7:-3], texts, flat) + of_texts(meshes[3:6], texts, solid)),
         (["upgrade"], of_texts(contours[-7:-3], texts) + of_texts(meshes[3:6], texts)),
         (["audit"], audited(meshes, texts)),
-        (["combine", "union", "contour"], pairs([("two tangles of 20 lines", *tangles, Boundary("contour", "".join(tangles)))])),
-        (["combine", "union", "off"], pairs([("twice 5 tetrahedra", tetrahedra(5, 1), tetrahedra(5, 2), None)])),
-        (["prism"], [Case("64 layers: star of 24 lines, 3 discs across", lambda: layers(64))]),
+        (["combine", "union", "contour"], pairs([("two tangles of 20 lines", *tangles, both, None)])),
+        (["combine", "union", "off"], pairs([("twice 5 tetrahedra", tetrahedra(5, 1), tetrahedra(5, 2), None, "meshes")])),
+        (["prism"], prism_cases()),
     ]
 
 
