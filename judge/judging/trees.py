@@ -68,7 +68,7 @@ def is_lawful(leaf: Leaf) -> bool:
 
 def is_axis(leaf: Leaf) -> bool:
     """Whether a strip or slab goes along the axes."""
-    return leaf.kind in ("strip", "slab") and sum(map(abs, normal_of_leaf(leaf))) == 1
+    return leaf.kind in ("strip", "slab") and sum(n * n for n in normal_of_leaf(leaf)) == 1
 
 
 def short_form(leaf: Leaf) -> Numbers:
