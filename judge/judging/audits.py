@@ -1,0 +1,84 @@
+"""Audits: whether a mesh and a tree agree at each point of the box that is on no plane of either."""
+
+from __future__ import annotations
+
+import random
+import re
+from math import gcd
+
+from .cells import cells_of, inner
+from .formulas import Wrong
+from .meshes import Face
+from .parity import MeshParity
+from .tables import audit_limit, box_of, plane_at, value
+from .trees import Leaf, Numbers, Point, Tree, holds
+
+ANSWER = re.compile(rb"differs (-?[0-9]+) (-?[0-9]+) (-?[0-9]+) ([0-9]+)\n")
+
+
+class Audit:
+    """A mesh and a tree of one audit."""
+
+    def __init__(self, faces: list[Face], tree: Tree) -> None:
+        self.tree = tree
+        self.rows = audit_limit(faces, tree)
+        self.box = box_of([], faces, 3)
+        self.mesh = MeshParity(faces)
+
+    def difference(self) -> Point | None:
+        """A point where mesh and tree differ: the inner one of a cell."""
+        for mask, corners in cells_of(self.box, self.rows).items():
+            p = inner(corners)
+            if self.mesh.is_odd(p) != holds_at(self.tree, mask, self.rows):
+                return p
+        return None
+
+    def fault(self, p: Point) -> str | None:
+        """Why a point is no answer."""
+        w = p[-1]
+        if w < 1 or gcd(*p) != 1:
+            return "is not in lowest terms"
+        if not all(low * w < x < high * w for x, low, high in zip(p, *self.box)):
+            return "is not strictly inside the box"
+        if not all(value(row, p) for row in self.rows):
+            return "is on a plane of the mesh or of the text"
+        return None if self.mesh.is_odd(p) != holds(self.tree, p) else "is where mesh and text agree"
+
+
+def holds_at(tree: Tree, mask: int, rows: list[Numbers]) -> bool:
+    """What a tree of slabs and blocks says of the points of a mask inside its box."""
+    if isinstance(tree, Leaf):
+        if tree.kind == "block":
+            return True
+        o, n = tree.numbers[:3], tree.numbers[3:]
+        row = plane_at((o[0], o[1], o[2]), (n[0], n[1], n[2]))
+        above = bool(mask >> rows.index(row) & 1)
+        return above == (sum(a * b for a, b in zip(row, n)) > 0)
+    kids = (holds_at(kid, mask, rows) for kid in tree.kids)
+    if tree.operator == "union":
+        return any(kids)
+    if tree.operator == "intersection":
+        return all(kids)
+    return next(kids) and not any(kids)
+
+
+def check_audit(text: bytes, faces: list[Face], tree: Tree, count: int, dice: random.Random) -> None:
+    """Wrong where the answer of an audit is."""
+    audit = Audit(faces, tree)
+    if text != b"same\n":
+        found = ANSWER.fullmatch(text)
+        if found is None:
+            raise Wrong(f"no answer of an audit: {text[:80]!r}")
+        p = tuple(map(int, found.groups()))
+        fault = audit.fault(p)
+        if fault or b"differs %d %d %d %d\n" % p != text:
+            raise Wrong(f"the point {p} {fault or 'is not written plainly'}")
+        return
+    differing = audit.difference()
+    if differing is not None:
+        raise Wrong(f"`same`, and mesh and text differ at {differing}")
+    for _ in range(count):
+        w = dice.choice((2, 3, 7, 64, 1021))
+        p = tuple(dice.randint(low * w, high * w) for low, high in zip(*audit.box)) + (w,)
+        if audit.fault(p) is None:
+            raise Wrong(f"`same`, and mesh and text differ at {p}")
