@@ -93,9 +93,8 @@ def verdict(words: Sequence[str], data: bytes, run: Run, count: int = 1000, seed
     except Stop as stop:
         status, line = stop.status, stop.line + "\n"
     if run.status != status or run.err != line.encode():
-        ours = f"exit {status}" + (f" with `{line.strip()}`" if line else "")
-        told = run.err[:200].decode(errors="replace").strip()
-        return f"exit {run.status}" + (f" with `{told}`" if told else "") + f", not {ours}"
+        told = run.err[:200].decode(errors="replace")
+        return f"exit {run.status} with {told!r} on standard error, not exit {status} with {line!r}"
     if given is None:
         return f"{len(run.out)} bytes on standard output of a refused run" if run.out else None
     try:
