@@ -24,12 +24,12 @@ def cover(masks: dict[int, bool], count: int) -> list[Term]:
     terms: list[Term] = []
     for mask, odd in masks.items():
         if odd and not any(term.holds(mask) for term in terms):
-            term = Term(mask, ~mask & ((1 << count) - 1))
-            for at in range(count):
-                less = term.without(1 << at)
-                if not any(less.holds(other) for other in even):
-                    term = less
-            terms.append(term)
+            # A literal of the product keeps out what differs from the mask in its bit.
+            parted, literals = [other ^ mask for other in even], (1 << count) - 1
+            for bit in (1 << at for at in range(count)):
+                if all(bits & literals & ~bit for bits in parted):
+                    literals &= ~bit
+            terms.append(Term(mask & literals, ~mask & literals))
     odds = [mask for mask, odd in masks.items() if odd]
     for term in list(terms):
         others = [other for other in terms if other != term]

@@ -13,7 +13,7 @@ from .parity import MeshParity
 from .tables import audit_limit, box_of, plane_at, value
 from .trees import Leaf, Numbers, Point, Tree, holds
 
-ANSWER = re.compile(rb"differs (-?[0-9]+) (-?[0-9]+) (-?[0-9]+) ([0-9]+)\n")
+ANSWER = re.compile(rb"differs (-?[0-9]{1,300}) (-?[0-9]{1,300}) (-?[0-9]{1,300}) ([0-9]{1,300})\n")
 
 
 class Audit:

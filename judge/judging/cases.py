@@ -24,6 +24,7 @@ USAGE = (
     "", "convert", "convert stl", "convert off off", "Convert off", "ask 1 2 3", "side off 0 0 0 0", "trial off 0",
     "trial off 19", "trial contour 11", "trial off +1", "side contour 1 2 +0 1", "ask 0 0 0 -1", "combine xor off",
     "combine union", "carve", "audit off", "upgrade x", "factor", "prism 1", "--help", "side off 1 2 3 4 5", "ask 1.0 0 0 1",
+    "convert \udcff", "x " * 1000,
 )
 
 
@@ -100,7 +101,9 @@ def boundary_text(kind: str, dice: Dice, lawful: bool = False) -> bytes:
         return data
     if fault < 90:
         return worse_contours(data, dice) if kind == "contour" else worse_mesh(faces, dice)
-    return broken(data, dice) if fault < 99 or dice.odds(85) else padded(data, BOUNDARY_BYTES, dice)
+    if fault < 98:
+        return broken(data, dice)
+    return dice.randbytes(dice.randint(0, 99)) if dice.odds(85) else padded(data, BOUNDARY_BYTES, dice)
 
 
 def point_words(dice: Dice, near: list[int]) -> list[str]:

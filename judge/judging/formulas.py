@@ -12,7 +12,7 @@ from .setting import Setting
 from .texts import Refusal
 from .trees import Leaf, Node, Point, Tree, holds, layout
 
-NOTE = re.compile(r" *// (own|out) (undecided|-?[0-9]+( -?[0-9]+)+)")
+NOTE = re.compile(r" *// (own|out) (undecided|-?[0-9]{1,300}( -?[0-9]{1,300})+)")
 
 
 class Wrong(Exception):

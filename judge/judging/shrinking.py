@@ -51,7 +51,7 @@ def smaller_numbers(data: bytes) -> Iterator[bytes]:
         yield data[: found.start()] + b"%d" % (int(found.group()[:300]) // 2) + data[found.end() :]
 
 
-def shrunk(data: bytes, shows: Shows, seconds: float = 30) -> bytes:
+def shrunk(data: bytes, shows: Shows, seconds: float) -> bytes:
     """A shorter text that still shows the difference."""
     deadline = time.monotonic() + seconds
     for pattern in (rb"[^\n]*\n|[^\n]+", rb"\S+\s*|\s+", rb"(?s:.)"):
