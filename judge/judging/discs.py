@@ -116,10 +116,12 @@ def is_sample(corners: list[Point], p: Point) -> bool:
     return any(u * w == x * t and v * w == y * t for u, v, t in samples(corners))
 
 
-def sample_sets(table: Table, corners: list[Point]) -> set[int]:
-    """The sets of discs that the samples of a region are in."""
-    found = set()
+def sample_sets(table: Table, corners: list[Point], most: int) -> set[int]:
+    """The sets of discs that the samples of a region are in, which are so many at most."""
+    found: set[int] = set()
     for x, y, w in samples(corners):
+        if len(found) == most:
+            break
         chosen = 0
         for at, (cx, cy, r2) in enumerate(table.discs):
             side = (x - cx * w) ** 2 + (y - cy * w) ** 2 - r2 * w * w

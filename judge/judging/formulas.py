@@ -223,8 +223,11 @@ def check_undecided(terms: list[Term], at: int, bit: int, setting: Setting, node
 
 
 def check_points(tree: Tree, setting: Setting, count: int, dice: random.Random) -> None:
-    """The tree means the boundary at some random free points, and holds nowhere outside the box."""
+    """The tree means the boundary at points of some masks and at random ones, and holds nowhere outside the box."""
     least, greatest = setting.box
+    for mask in dice.sample(list(setting.points), min(count, len(setting.points))):
+        if holds(tree, setting.points[mask]) != setting.free[mask]:
+            raise Wrong(f"text and boundary differ at {setting.points[mask]}")
     for _ in range(count):
         w = dice.choice((1, 2, 3, 7, 64, 1021, 1 << 20))
         p = tuple(dice.randint(low * w - w, high * w + w) for low, high in zip(least, greatest)) + (w,)

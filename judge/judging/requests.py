@@ -3,7 +3,8 @@
 from __future__ import annotations
 
 import re
-from typing import NamedTuple, Sequence
+from contextlib import contextmanager
+from typing import Iterator, NamedTuple, Sequence
 
 from .contours import Element, check_contours, read_contours
 from .csg import read_tree
@@ -93,12 +94,13 @@ def read_boundary(kind: str, text: bytes) -> tuple[list[Element], list[Face]]:
     return [], check_mesh(read_mesh(text))
 
 
-def read_second(kind: str, text: bytes) -> tuple[list[Element], list[Face]]:
-    """The same for the second part of a joined text."""
+@contextmanager
+def inside(where: str) -> Iterator[None]:
+    """Refusals of what is done here are told as those of a part of the text."""
     try:
-        return read_boundary(kind, text)
+        yield
     except Refusal as refusal:
-        raise Refusal("part 2 " + refusal.why) from None
+        raise Refusal(f"{where} {refusal.why}") from None
 
 
 def read_pair(request: Request, data: bytes) -> Given:
@@ -107,7 +109,9 @@ def read_pair(request: Request, data: bytes) -> Given:
     for at, part in enumerate((first, second), 1):
         if len(part) > BOUNDARY_BYTES:
             raise Refusal(f"PartTooLong {at}")
-    ones, twos = read_boundary(request.kind, first), read_second(request.kind, second)
+    ones = read_boundary(request.kind, first)
+    with inside("part 2"):
+        twos = read_boundary(request.kind, second)
     check_limits(ones[0] + twos[0], ones[1] + twos[1])
     return Given(request, (ones[0], twos[0]), (ones[1], twos[1]))
 
@@ -118,10 +122,8 @@ def read_audit(request: Request, data: bytes) -> Given:
     if len(first) > BOUNDARY_BYTES:
         raise Refusal("PartTooLong 1")
     faces = check_mesh(read_mesh(first))
-    try:
+    with inside("part 2"):
         tree = read_tree(second)
-    except Refusal as refusal:
-        raise Refusal("part 2 " + refusal.why) from None
     if is_flat(tree):
         raise Refusal("NotSolid")
     block = box_leaf(box_of([], faces, 3))
@@ -136,11 +138,9 @@ def read_sections(request: Request, data: bytes) -> Given:
     sections = tuple(read_layers(data))
     elements = []
     for at, section in enumerate(sections):
-        try:
+        with inside(f"layer {at}"):
             elements.append(check_contours(read_contours(section.text)))
             check_limits(elements[-1], [])
-        except Refusal as refusal:
-            raise Refusal(f"layer {at} {refusal.why}") from None
     return Given(request, tuple(elements), sections=sections)
 
 

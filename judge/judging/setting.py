@@ -2,6 +2,7 @@
 
 from __future__ import annotations
 
+from collections import Counter
 from functools import cached_property
 from typing import Callable
 
@@ -116,8 +117,9 @@ class Setting:
         if not self.has_arcs:
             return self.free
         shift, result = len(self.table.flat), {}
+        sets = Counter(mask & ((1 << shift) - 1) for mask in self.free)
         for region, corners in self.regions.items():
-            for chosen in sample_sets(self.table, corners):
+            for chosen in sample_sets(self.table, corners, sets[region]):
                 mask = region | chosen << shift
                 result[mask] = self.free[mask]
         return result
