@@ -14,18 +14,20 @@ from .texts import BOUNDARY_BYTES, JOINED_BYTES, Refusal
 from .trees import Leaf, Node, Tree, layout, leaf_words
 
 CONTOUR_FAULTS = (
-    "X1.5", "G91", "G18", "Q5", "X", "G1.5", "M1", "X1 X2", "(", "Z1 X2", "I2000 J3", "G02 X1", "G80 X1", "R5", "#1",
-    "G0 G1", "X1024", "Y-1024", "Y1e3", "X--1", "X+.", "M3.5", "N", "X5.5.5", "G03 I1 J0 X1 Y1", "G00 X9 Y9", "G2",
-    "G03 I0 J0", "/G1", "O1", "G1 X9999999999999999999999", "M30 G5", "X(c)5", "g 1 x 3", "G03 I1 X3 Y7", "J.5",
-)
-MESH_WORDS = ("x", "1.5", "1024", "-1024", "-1", "2", "65", "99", "1e3", "", "0 0", "+", "3 0 1", "9999999999999999999999", "OFF")
-HOSTILE = [b"\0", b"\xff", b"\n", b"====\n", b"(", b"#", b"%", b";", b"//", b"-", b".", b"99999999", b"LAYER 0 1\n", b"\r"]
+    "X1.5|G91|G18|Q5|X|G1.5|M1|X1 X2|(|Z1 X2|I2000 J3|G02 X1|G80 X1|R5|#1|G0 G1|X1024|Y-1024|Y1e3|X--1|X+.|M3.5|N"
+    "|X5.5.5|G03 I1 J0 X1 Y1|G00 X9 Y9|G2|G03 I0 J0|/G1|O1|G1 X9999999999999999999999|M30 G5|X(c)5|g 1 x 3|G03 I1 X3 Y7"
+    "|J.5"
+).split("|")
+MESH_WORDS = "x|1.5|1024|-1024|-1|2|65|99|1e3||0 0|+|3 0 1|9999999999999999999999|OFF".split("|")
+TREE_NUMBERS = "0|-1|1|007|-0|8388607|8388608|16384|8192|1024|12ab|1.5".split("|")
+TREE_WORDS = "|cube|circle|union|;|}|{|?|-|/|5|[|)|\n|x_1|=|+".split("|")
+LAYER_LINES = "LAYER 0 1 5|LAYER|layer 0 1|LAYER 1 1|LAYER 0 1024|LAYER 0.5 1|LAYER -5 x|LAYER#".split("|")
+HOSTILE = b"\0|\xff|\n|====\n|(|#|%|;|//|-|.|99999999|LAYER 0 1\n|\r".split(b"|")
 USAGE = (
-    "", "convert", "convert stl", "convert off off", "Convert off", "ask 1 2 3", "side off 0 0 0 0", "trial off 0",
-    "trial off 19", "trial contour 11", "trial off +1", "side contour 1 2 +0 1", "ask 0 0 0 -1", "combine xor off",
-    "combine union", "carve", "audit off", "upgrade x", "factor", "prism 1", "--help", "side off 1 2 3 4 5", "ask 1.0 0 0 1",
-    "convert \udcff", "x " * 1000,
-)
+    "|convert|convert stl|convert off off|Convert off|ask 1 2 3|side off 0 0 0 0|trial off 0|trial off 19|--help|carve"
+    "|trial contour 11|trial off +1|side contour 1 2 +0 1|ask 0 0 0 -1|combine xor off|combine union|audit off"
+    "|upgrade x|factor|prism 1|side off 1 2 3 4 5|ask 1.0 0 0 1|convert \udcff|" + "x " * 1000
+).split("|")
 
 
 class Case(NamedTuple):
@@ -189,9 +191,9 @@ def worse_tree(text: str, dice: Dice) -> str:
     if kind < 6:
         places = [k for k, token in enumerate(tokens) if re.fullmatch(r"-?[0-9]+", token)]
         at = dice.choice(places or [at])
-        tokens[at] = dice.choice(("0", "-1", "1", "007", "-0", "8388607", "8388608", "16384", "8192", "1024", "12ab", "1.5"))
+        tokens[at] = dice.choice(TREE_NUMBERS)
     else:
-        tokens[at] = dice.choice(("", "cube", "circle", "union", ";", "}", "{", "?", "-", "/", "5", "[", ")", "\n", "x_1", "=", "+"))
+        tokens[at] = dice.choice(TREE_WORDS)
     return "".join(tokens)
 
 
@@ -311,7 +313,7 @@ def layers_text(dice: Dice) -> bytes:
         high = low + dice.randint(1, 9)
         line = dice.choice((f"LAYER {low} {high}", f"  LAYER\t{low}.0 +{high}" if high >= 0 else f"LAYER {low} {high}"))
         if dice.odds(6):
-            line = dice.choice((line + " 5", "LAYER", "layer 0 1", "LAYER 1 1", "LAYER 0 1024", "LAYER 0.5 1", f"LAYER {high} x", "LAYER#"))
+            line = dice.choice(LAYER_LINES)
         result.append((line + dice.choice(("", "", " # top", "\r")) + "\n").encode())
         text = boundary_text("contour", dice, dice.odds(85))
         result.append(text if text.endswith(b"\n") or not text else text + b"\n")
@@ -356,4 +358,3 @@ def make_case(command: str, seed: int, number: int) -> Case:
     dice = Dice(f"{command} {seed} {number}")
     case = MAKERS[command](dice)
     return Case(dice.choice(USAGE).split(), case.data) if dice.odds(1) else case
-

@@ -174,7 +174,7 @@ def contour_text(whole: list[Contour], dice: Dice) -> bytes:
             new = "G01" if element.centre is None else "G03" if element.ccw else "G02"
             lines.append(words(new, element.b, rest))
             if loose and dice.odds(8):
-                lines.append(dice.choice(("", "(X1 Y1)", "; G91", "G00 Z5", "N7 F100", "%G18", "M5", "  \t", "T1 M6 S9")))
+                lines.append(dice.choice("|(X1 Y1)|; G91|G00 Z5|N7 F100|%G18|M5|  \t|T1 M6 S9".split("|")))
                 mode = "G00" if lines[-1] == "G00 Z5" else mode
     if dice.odds(40):
         lines += ["M30", dice.choice(("?", "G91", "%", "X9"))] if dice.odds(50) else ["M30"]

@@ -57,7 +57,8 @@ class SweepTest(unittest.TestCase):
     """Exact masks of lines and discs."""
 
     def test_roots_in_order(self) -> None:
-        ordered = [Root(0, -1, 8, 2), Root(-1, 0, 0, 1), Root(0, 0, 0, 7), Root(3, -1, 2, 1), Root(0, 1, 3, 1), Root(3, 1, 2, 1)]
+        ordered = [Root(0, -1, 8, 2), Root(-1, 0, 0, 1), Root(0, 0, 0, 7), Root(3, -1, 2, 1)]
+        ordered += [Root(0, 1, 3, 1), Root(3, 1, 2, 1)]
         for i, one in enumerate(ordered):
             for j, other in enumerate(ordered):
                 self.assertEqual(compare(one, other), (i > j) - (i < j))

@@ -53,11 +53,13 @@ class RunningTest(unittest.TestCase):
 
     def test_a_right_program_and_a_wrong_one(self) -> None:
         for body, status, told in (
-            (RIGHT, 0, " 0 differences"), (RIGHT.replace("run.out", "run.out[1:]"), 1, "judge-"), ("", 1, " differences"),
+            (RIGHT, 0, " 0 differences"),
+            (RIGHT.replace("run.out", "run.out[1:]"), 1, "judge-"),
+            ("", 1, " differences"),
         ):
             with program(body) as path, tempfile.TemporaryDirectory() as keep:
-                words = [str(JUDGE / "run"), path, "--count", "3", "--command", "upgrade", "--keep", f"{keep}/judge-x", "--shrink", "1"]
-                ended = subprocess.run(words, capture_output=True, text=True)
+                words = f"{JUDGE}/run {path} --count 3 --command upgrade --keep {keep}/judge-x --shrink 1"
+                ended = subprocess.run(words.split(), capture_output=True, text=True)
                 self.assertEqual((ended.returncode, ended.stderr), (status, ""))
                 self.assertIn(told, ended.stdout)
         ended = subprocess.run([JUDGE / "run", "/no/such/program"], capture_output=True, text=True)
