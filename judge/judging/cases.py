@@ -18,6 +18,7 @@ CONTOUR_FAULTS = (
     "|X5.5.5|G03 I1 J0 X1 Y1|G00 X9 Y9|G2|G03 I0 J0|/G1|O1|G1 X9999999999999999999999|M30 G5|X(c)5|g 1 x 3|G03 I1 X3 Y7"
     "|J.5"
 ).split("|")
+BLOCK_FAULTS = "G0 X1 Y1 Z5|G80 X1|G02 X1|G3 X1 Y1|G0 X9 Y9|G01 Z1 I1|G80|G02 I1024|G2 J-2000|M30|M2 X5".split("|")
 MESH_WORDS = "x|1.5|1024|-1024|-1|2|65|99|1e3||0 0|+|3 0 1|9999999999999999999999|OFF".split("|")
 TREE_NUMBERS = "0|-1|1|007|-0|8388607|8388608|16384|8192|1024|12ab|1.5".split("|")
 TREE_WORDS = "|cube|circle|union|;|}|{|?|-|/|5|[|)|\n|x_1|=|+".split("|")
@@ -49,13 +50,17 @@ def broken(data: bytes, dice: Dice) -> bytes:
 
 def worse_contours(data: bytes, dice: Dice) -> bytes:
     """A text of contours with a fault put in, or a line taken out or given twice."""
+    kind = dice.randint(0, 9)
+    if kind < 3:
+        # The contours stay closed, and an arc gets another centre.
+        offsets = (r"[Ii](-?\d+)", lambda found: f"I{int(found[1]) + 1}") if kind else (r"[Ii].*", lambda _: "I0 J0")
+        return re.sub(*offsets, data.decode(), count=1).encode()
     lines = data.decode().split("\n")
     at = dice.randrange(len(lines))
-    kind = dice.randint(0, 3)
-    if kind == 0:
+    if kind == 3:
         del lines[at]
-    elif kind == 1:
-        lines.insert(at, dice.choice(CONTOUR_FAULTS))
+    elif kind < 7:
+        lines.insert(at, dice.choice(BLOCK_FAULTS))
     else:
         lines[at] += " " + dice.choice(CONTOUR_FAULTS)
     return "\n".join(lines).encode()
@@ -99,9 +104,9 @@ def boundary_text(kind: str, dice: Dice, lawful: bool = False) -> bytes:
     whole = contours(dice) if kind == "contour" else []
     faces = mesh(dice) if kind == "off" else []
     data = contour_text(whole, dice) if kind == "contour" else mesh_text(faces, dice)
-    if fault < 78:
+    if fault < 75:
         return data
-    if fault < 90:
+    if fault < 92:
         return worse_contours(data, dice) if kind == "contour" else worse_mesh(faces, dice)
     if fault < 98:
         return broken(data, dice)

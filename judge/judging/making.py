@@ -118,9 +118,9 @@ def contours(dice: Dice) -> list[Contour]:
     roll = dice.randint(0, 99)
     if roll < 4:
         return []
-    if roll < 7:
+    if roll < 9:
         return at_limits(dice)
-    if roll < 22:
+    if roll < 23:
         return touching(dice)
     if roll < 30:
         return crowded(dice)
@@ -225,11 +225,11 @@ def mesh(dice: Dice) -> list[Face]:
     roll = dice.randint(0, 99)
     if roll < 3:
         return []
-    if roll < 5:
+    if roll < 6:
         count = dice.choice((37, 38, 39, 50))
-        return extruded([(k * 20 - 400, (k * k) // 2 - 300) for k in range(count)], 0, (0, 0, 7))
+        return extruded([(k * 20 - 400, k * (k + 1) // 2 - 700) for k in range(count)], 0, (0, 0, 7))
     faces = [face for _ in range(dice.choice((1, 1, 1, 1, 2, 2))) for face in solid(dice)]
-    if roll < 9:
+    if roll < 10:
         faces += [list(reversed(face)) for face in faces]
     if dice.odds(30):
         faces = [tri for face in faces for tri in fan(face)]
