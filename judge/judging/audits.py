@@ -11,7 +11,7 @@ from .formulas import Wrong
 from .meshes import Face
 from .parity import MeshParity
 from .tables import audit_limit, box_of, plane_at, value
-from .trees import Leaf, Numbers, Point, Tree, holds
+from .trees import Leaf, Numbers, Point, Tree, holds, holds_where, leaves_of
 
 ANSWER = re.compile(rb"differs (-?[0-9]{1,300}) (-?[0-9]{1,300}) (-?[0-9]{1,300}) ([0-9]{1,300})\n")
 
@@ -27,9 +27,11 @@ class Audit:
 
     def difference(self) -> Point | None:
         """A point where mesh and tree differ: the inner one of a cell."""
+        sides = {leaf: side_of_slab(leaf, self.rows) for leaf in leaves_of(self.tree)}
         for mask, corners in cells_of(self.box, self.rows).items():
+            in_cell = {leaf: bool(mask & bit) == above for leaf, (bit, above) in sides.items()}
             p = inner(corners)
-            if self.mesh.is_odd(p) != holds_at(self.tree, mask, self.rows):
+            if self.mesh.is_odd(p) != holds_where(self.tree, in_cell.__getitem__):
                 return p
         return None
 
@@ -45,21 +47,13 @@ class Audit:
         return None if self.mesh.is_odd(p) != holds(self.tree, p) else "is where mesh and text agree"
 
 
-def holds_at(tree: Tree, mask: int, rows: list[Numbers]) -> bool:
-    """What a tree of slabs and blocks says of the points of a mask inside its box."""
-    if isinstance(tree, Leaf):
-        if tree.kind == "block":
-            return True
-        o, n = tree.numbers[:3], tree.numbers[3:]
-        row = plane_at((o[0], o[1], o[2]), (n[0], n[1], n[2]))
-        above = bool(mask >> rows.index(row) & 1)
-        return above == (sum(a * b for a, b in zip(row, n)) > 0)
-    kids = (holds_at(kid, mask, rows) for kid in tree.kids)
-    if tree.operator == "union":
-        return any(kids)
-    if tree.operator == "intersection":
-        return all(kids)
-    return next(kids) and not any(kids)
+def side_of_slab(leaf: Leaf, rows: list[Numbers]) -> tuple[int, bool]:
+    """The bit of a slab's plane, and whether the slab is on its Above side; of a block no bit, and True."""
+    if leaf.kind == "block":
+        return 0, False
+    o, n = leaf.numbers[:3], leaf.numbers[3:]
+    row = plane_at((o[0], o[1], o[2]), (n[0], n[1], n[2]))
+    return 1 << rows.index(row), sum(a * b for a, b in zip(row, n)) > 0
 
 
 def check_audit(text: bytes, faces: list[Face], tree: Tree, count: int, dice: random.Random) -> None:

@@ -3,7 +3,7 @@
 from __future__ import annotations
 
 from math import gcd
-from typing import Iterator, NamedTuple, Union
+from typing import Callable, Iterator, NamedTuple, Union
 
 from .texts import farthest
 
@@ -163,13 +163,26 @@ def is_flat(tree: Tree) -> bool:
 
 def holds(tree: Tree, p: Point) -> bool:
     """What a tree says of a point."""
+    known: dict[Leaf, bool] = {}
+
+    def leaf_holds(leaf: Leaf) -> bool:
+        if leaf not in known:
+            known[leaf] = in_leaf(leaf, p)
+        return known[leaf]
+
+    return holds_where(tree, leaf_holds)
+
+
+def holds_where(tree: Tree, leaf_holds: Callable[[Leaf], bool]) -> bool:
+    """What a tree says, where this is what its leaves say."""
     if isinstance(tree, Leaf):
-        return in_leaf(tree, p)
+        return leaf_holds(tree)
+    kids = (holds_where(kid, leaf_holds) for kid in tree.kids)
     if tree.operator == "union":
-        return any(holds(kid, p) for kid in tree.kids)
+        return any(kids)
     if tree.operator == "intersection":
-        return all(holds(kid, p) for kid in tree.kids)
-    return holds(tree.kids[0], p) and not any(holds(kid, p) for kid in tree.kids[1:])
+        return all(kids)
+    return next(kids) and not any(kids)
 
 
 def is_edge(tree: Tree, p: Point) -> bool:
