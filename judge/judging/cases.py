@@ -8,10 +8,11 @@ from typing import Callable, NamedTuple
 from .answers import cover, formula
 from .formulas import tree_of
 from .making import TRIPLES, Dice, contour_text, contours, mesh, mesh_text, solid
-from .meshes import Face, check_mesh
+from .meshes import Face, check_mesh, edges_of
+from .requests import read_boundary
 from .setting import Setting
 from .texts import BOUNDARY_BYTES, JOINED_BYTES, Refusal
-from .trees import Leaf, Node, Tree, layout, leaf_words
+from .trees import Leaf, Node, Numbers, Tree, layout, leaf_words
 
 CONTOUR_FAULTS = (
     "X1.5|G91|G18|Q5|X|G1.5|M1|X1 X2|(|Z1 X2|I2000 J3|G02 X1|G80 X1|R5|#1|G0 G1|X1024|Y-1024|Y1e3|X--1|X+.|M3.5|N"
@@ -71,25 +72,30 @@ def worse_mesh(faces: list[Face], dice: Dice) -> bytes:
     faces = [list(face) for face in faces] or [[(0, 0, 0), (1, 0, 0), (0, 1, 0)]]
     at = dice.randrange(len(faces))
     face = faces[at]
-    kind = dice.randint(0, 6)
+    kind = dice.randint(0, 8)
     if kind == 0:
         del faces[at]
     elif kind == 1:
         faces[at] = [*face, face[dice.choice((0, -1))]]
     elif kind == 2:
-        faces[at] = [face[0], face[1], face[1], face[0], face[1]][:3] if dice.odds(50) else [face[0], face[1], face[0]]
+        faces[at] = [face[0], face[1], face[1 if dice.odds(50) else 0]]
     elif kind == 3:
         x, y, z = face[-1]
         faces[at] = [*face[:-1], (x, y + 1, z + 1)]
     elif kind == 4:
         (a, b, c), (d, e, f) = face[0], face[1]
         faces[at] = [face[0], (2 * d - a, 2 * e - b, 2 * f - c), *face[1:]]
+    elif kind == 5:
+        faces.append(face)
     text = mesh_text(faces, dice)
-    if kind < 5:
-        return text
+    if kind == 6:
+        text = text.rstrip(b"\n") + dice.choice((b" 1 2 3 4 5", b" 1 2 3 4", b"5", b"\n# x\n0 0 0\n"))
+    if kind == 7:
+        counts = dice.choice((b"1024 0", b"1025 0", b"0 2048", b"0 2049", b"1024.0 2048", b"-1 1"))
+        text = re.sub(rb"\d+ \d+", counts, text, count=1)
     words = re.split(rb"([ \t\r\n]+)", text)
-    at = 2 * dice.randrange(len(words) // 2 + 1)
-    words[at] = dice.choice(MESH_WORDS).encode()
+    if kind == 8:
+        words[2 * dice.randrange(len(words) // 2 + 1)] = dice.choice(MESH_WORDS).encode()
     return b"".join(words)
 
 
@@ -136,11 +142,28 @@ def numbers_in(data: bytes) -> list[int]:
     return [int(word) for word in re.findall(rb"-?[0-9]+", data[:4000]) if len(word) < 6]
 
 
+def near_edge(kind: str, data: bytes, dice: Dice) -> list[str]:
+    """A point in the column of a corner or of a place on an edge, above or below it, where the text is lawful."""
+    try:
+        elements, faces = read_boundary(kind, data)
+    except Refusal:
+        return []
+    ends: list[tuple[Numbers, Numbers]] = [edge for face in faces for edge in edges_of(face)]
+    for element in elements:
+        ends += [(element.a, element.b), (element.centre or element.a, element.b)]
+    if not ends:
+        return []
+    (a, b), (i, j) = dice.choice(ends), dice.choice(((0, 1), (0, 1), (0, 1), (1, 1), (2, 1), (1, 3)))
+    p = [i * x + j * y for x, y in zip(a, b)]
+    p[-1] += dice.choice((0, 1, -1, dice.randint(-99, 99)))
+    return [str(x) for x in [*p, 0][:3]] + [str(i + j)]
+
+
 def side_case(dice: Dice) -> Case:
     """A case of `side`: near corners, so that columns and edges are met."""
     kind = dice.choice(("off", "contour"))
     data = boundary_text(kind, dice)
-    point = point_words(dice, numbers_in(data))
+    point = (near_edge(kind, data, dice) if dice.odds(50) else []) or point_words(dice, numbers_in(data))
     if kind == "contour" and dice.odds(92):
         point[2] = dice.choice(("0", "-0"))
     return Case(["side", kind, *point], data)

@@ -99,7 +99,7 @@ def crowded(dice: Dice) -> list[Contour]:
 
 def at_limits(dice: Dice) -> list[Contour]:
     """So many lines, discs or elements that a limit is met, passed or just not."""
-    kind = dice.choice(("lines", "lines", "discs", "discs", "elements", "far"))
+    kind = dice.choice(("lines", "discs", "elements", "far"))
     if kind == "lines":
         count = dice.choice((39, 40, 41, 60))
         if dice.odds(50):
@@ -108,7 +108,7 @@ def at_limits(dice: Dice) -> list[Contour]:
     if kind == "discs":
         return [circle((12 * k - 60, 0), (5, 0), True) for k in range(dice.choice((9, 10, 11, 14)))]
     if kind == "elements":
-        return [polygon([(k % 2, k // 2) for k in range(2)] * (dice.choice((510, 512, 514)) // 2))]
+        return [polygon([(k % 2, k // 2) for k in range(dice.choice((511, 512, 513)))])]
     centre = (dice.choice((-1023, 1023)), dice.choice((-1023, 1023)))
     return [circle(centre, (-2 * centre[0], -2 * centre[1]), True), polygon([centre, (0, 0), (-centre[0], 1)])]
 
@@ -226,8 +226,11 @@ def mesh(dice: Dice) -> list[Face]:
     if roll < 3:
         return []
     if roll < 6:
-        count = dice.choice((37, 38, 39, 50))
+        count = dice.choice((37, 38, 39, 45))
         return extruded([(k * 20 - 400, k * (k + 1) // 2 - 700) for k in range(count)], 0, (0, 0, 7))
+    if roll == 6:
+        corners, times = dice.choice(((3, 21), (4, 16), (5, 13)))
+        return extruded([dice.place(9) for _ in range(corners)] * times, 0, (0, 0, 2))
     faces = [face for _ in range(dice.choice((1, 1, 1, 1, 2, 2))) for face in solid(dice)]
     if roll < 10:
         faces += [list(reversed(face)) for face in faces]
