@@ -8,7 +8,7 @@ from itertools import combinations
 from math import isqrt
 from typing import Iterator, NamedTuple
 
-from .tables import Box, Table, value
+from .tables import Box, Table, value, walls_of
 from .trees import Numbers, Point
 
 
@@ -94,20 +94,22 @@ def breaks_of(rows: list[Numbers], discs: list[Numbers]) -> Iterator[Root]:
 
 def between(values: list[Root], bits: int = 24) -> Iterator[Fraction]:
     """A rational number between each two neighbours of the distinct values, in order."""
-    ordered = sorted(set(values), key=lambda root: root.floor(bits))
-    start = 0
+    ordered = sorted((root.floor(bits), root) for root in set(values))
+    exact, start = cmp_to_key(compare), 0
     for at in range(1, len(ordered) + 1):
         # Values whose approximations may overlap are put in order exactly.
-        if at == len(ordered) or ordered[at].floor(bits) - ordered[at - 1].floor(bits) > 4:
+        if at == len(ordered) or ordered[at][0] - ordered[at - 1][0] > 4:
             if at - start > 1:
-                ordered[start:at] = sorted(ordered[start:at], key=cmp_to_key(compare))
+                ordered[start:at] = sorted(ordered[start:at], key=lambda pair: exact(pair[1]))
             start = at
-    for low, high in zip(ordered, ordered[1:]):
-        if compare(low, high):
-            fine = bits
-            while high.floor(fine) - low.floor(fine) < 8:
+    for (_, low), (_, high) in zip(ordered, ordered[1:]):
+        fine = bits
+        below, above = low.floor(fine), high.floor(fine)
+        if above - below >= 8 or compare(low, high):
+            while above - below < 8:
                 fine *= 2
-            yield Fraction((high.floor(fine) + low.floor(fine)) // 2 + 1, 1 << fine)
+                below, above = low.floor(fine), high.floor(fine)
+            yield Fraction((above + below) // 2 + 1, 1 << fine)
 
 
 def heights(rows: list[Numbers], discs: list[Numbers], x: Fraction) -> list[Root]:
@@ -127,19 +129,16 @@ def heights(rows: list[Numbers], discs: list[Numbers], x: Fraction) -> list[Root
 
 def free_masks(box: Box, table: Table) -> dict[int, Point]:
     """Each mask of lines and discs that has a point strictly inside the box, with such a point."""
-    rows = [half.row for half in table.flat]
     (left, low), (right, high) = box
-    ends: list[Numbers] = [(0, 1, -low), (0, 1, -high)]
+    rows = [half.row for half in table.flat] + walls_of(box)
     found: dict[int, Point] = {}
-    sides = [Root(left, 0, 0, 1), Root(right, 0, 0, 1)]
-    breaks = [b for b in breaks_of(rows + ends, table.discs) if compare(sides[0], b) <= 0 <= compare(sides[1], b)]
-    for x in between(breaks + sides):
-        n, w = x.numerator, x.denominator
-        curves = heights(rows + ends, table.discs, x)
-        lowest, highest = Root(low, 0, 0, 1), Root(high, 0, 0, 1)
-        for y in between([curve for curve in curves if compare(curve, lowest) >= 0 >= compare(curve, highest)]):
-            point = (n * y.denominator, y.numerator * w, w * y.denominator)
-            found.setdefault(mask_at(table, point), point)
+    for x in between(list(breaks_of(rows, table.discs))):
+        if left < x < right:
+            n, w = x.numerator, x.denominator
+            for y in between(heights(rows, table.discs, x)):
+                if low < y < high:
+                    point = (n * y.denominator, y.numerator * w, w * y.denominator)
+                    found.setdefault(mask_at(table, point), point)
     return found
 
 
