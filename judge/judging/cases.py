@@ -3,16 +3,18 @@
 from __future__ import annotations
 
 import re
+from math import isqrt
 from typing import Callable, NamedTuple
 
 from .answers import cover, formula
+from .csg import read_tree
 from .formulas import tree_of
 from .making import TRIPLES, Dice, contour_text, contours, mesh, mesh_text, solid
 from .meshes import Face, check_mesh, edges_of
 from .requests import read_boundary
 from .setting import Setting
 from .texts import BOUNDARY_BYTES, JOINED_BYTES, Refusal
-from .trees import Leaf, Node, Numbers, Tree, layout, leaf_words
+from .trees import Leaf, Node, Numbers, Tree, frame_of, layout, leaf_words, leaves_of, normal_of_leaf
 
 CONTOUR_FAULTS = (
     "X1.5|G91|G18|Q5|X|G1.5|M1|X1 X2|(|Z1 X2|I2000 J3|G02 X1|G80 X1|R5|#1|G0 G1|X1024|Y-1024|Y1e3|X--1|X+.|M3.5|N"
@@ -256,13 +258,39 @@ def csg_text(dice: Dice) -> bytes:
     return broken(data, dice) if dice.odds(7) else data
 
 
+def near_leaf(data: bytes, dice: Dice) -> list[str]:
+    """A point at or near the boundary of a leaf, its far ends too, where the text is lawful."""
+    try:
+        leaves = list(leaves_of(read_tree(data)))
+    except Refusal:
+        leaves = []
+    if not leaves:
+        return []
+    leaf = dice.choice(leaves)
+    x, size = leaf.numbers, len(leaf.numbers) // 2
+    if leaf.kind == "disc":
+        steps = [(k, isqrt(max(0, x[2] - k * k))) for k in range(isqrt(x[2]) + 1)][:99]
+        i, j = dice.choice([step for step in steps if step[0] ** 2 + step[1] ** 2 == x[2]] or steps)
+        p = [x[0] - i, x[1] + j]
+    elif leaf.kind in ("tile", "block"):
+        p = [o + dice.choice((0, side, side // 2)) for o, side in zip(x, x[size:])]
+    else:
+        n = normal_of_leaf(leaf)
+        ways = [x[2:]] if size == 2 else list(frame_of(n))
+        far = [dice.choice((0, 8192, 1)), *(dice.choice((0, 8192, -8192, 1)) for _ in ways)]
+        p = [o + sum(k * way[at] for k, way in zip(far, (n, *ways))) for at, o in enumerate(x[:size])]
+    w = dice.choice((1, 1, 3))
+    p = [k * w + dice.choice((0, 0, 0, 1, -1)) for k in p]
+    return [str(k) for k in [*p, 0][:3]] + [str(w)]
+
+
 def ask_case(dice: Dice) -> Case:
     """A case of `ask`: points at corners and edges of leaves too."""
     data = csg_text(dice)
     near = numbers_in(data)
     words = point_words(dice, near + [x + y for x, y in zip(near, near[3:])] + [0, 5])
     words[2] = dice.choice(("0", "0", words[2]))
-    return Case(["ask", *words], data)
+    return Case(["ask", *((near_leaf(data, dice) if dice.odds(40) else []) or words)], data)
 
 
 def edited(node: Tree, dice: Dice) -> Tree:
