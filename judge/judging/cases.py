@@ -9,7 +9,7 @@ from typing import Callable, NamedTuple
 from .answers import cover, formula
 from .csg import read_tree
 from .formulas import tree_of
-from .making import TRIPLES, Dice, contour_text, contours, mesh, mesh_text, solid
+from .making import Dice, contour_text, contours, mesh, mesh_text, solid
 from .meshes import Face, check_mesh, edges_of
 from .requests import read_boundary
 from .setting import Setting
@@ -176,11 +176,12 @@ def leaf(flat: bool, dice: Dice, block: Leaf | None = None) -> Leaf:
     size = dice.choice((1, 3, 10, 1023, 4096))
     small = min(size, 1023)
     x, y, z = (dice.randint(-small, small) for _ in range(3))
-    sides = [dice.choice((1, dice.randint(1, 2 * size), 8191)) for _ in range(3)]
+    sides = [dice.choice((1, dice.randint(1, size), 8192 if dice.odds(2) else 8191)) for _ in range(3)]
     if block is not None and dice.odds(30):
         return block
     if flat:
-        u = dice.choice([*TRIPLES, (1, 0), (0, -1), (-1, 0), (0, 1), (2046, 1), (1, -2046)])
+        u = dice.choice(((1, 0), (0, -1), (-1, 0), (0, 1), (2046, 1), (1, -2046), (3, 4), (-12, 5), (1, 1)))
+        u = (2, -4) if dice.odds(2) else u
         kinds = [Leaf("disc", (x, y, dice.choice((1, 25, 50, 8_372_232, size)))), Leaf("tile", (x, y, *sides[:2]))]
         return dice.choice([*kinds, Leaf("strip", (x, y, *u)), Leaf("strip", (x, y, *u))])
     n = dice.choice(((1, 0, 0), (0, 0, -1), (0, 1, 0), (0, -1, 0), (1, 1, 1), (0, 2, 3), (-3, 0, 1), (8_388_607, 1, 0)))
