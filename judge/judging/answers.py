@@ -1,0 +1,108 @@
+"""Lawful answers, made slowly from the definitions: for the judge's own tests and to edit in generated cases."""
+
+from __future__ import annotations
+
+from typing import Iterable, Sequence
+
+from .audits import Audit
+from .cells import lowest
+from .factored import factored
+from .formulas import Term, is_own, node_numbers, tree_of
+from .prisms import laid_out, settings_of
+from .requests import Given, read_given
+from .setting import Setting
+from .texts import Stop
+from .trees import Node, Point, layout, node_lines, upgrade
+from .trials import summary
+from .verdicts import Run, ask_answer, side_answer, trial_setting
+from .discs import samples
+
+
+def cover(masks: dict[int, bool], count: int) -> list[Term]:
+    """Terms that hold each odd mask and no even one, none of them idle in any part."""
+    even = [mask for mask, odd in masks.items() if not odd]
+    terms: list[Term] = []
+    for mask, odd in masks.items():
+        if odd and not any(term.holds(mask) for term in terms):
+            # A literal of the product keeps out what differs from the mask in its bit.
+            parted, literals = [other ^ mask for other in even], (1 << count) - 1
+            for bit in (1 << at for at in range(count)):
+                if all(bits & literals & ~bit for bits in parted):
+                    literals &= ~bit
+            terms.append(Term(mask & literals, ~mask & literals))
+    odds = [mask for mask, odd in masks.items() if odd]
+    for term in list(terms):
+        others = [other for other in terms if other != term]
+        if all(any(other.holds(mask) for other in others) for mask in odds):
+            terms = others
+    return sorted(terms)
+
+
+def shown(setting: Setting) -> Iterable[tuple[Point, int, bool]]:
+    """Points that may be printed, each with its mask and whether it is odd."""
+    if not setting.is_flat:
+        for mask, p in setting.points.items():
+            yield lowest(p), mask, setting.free[mask]
+        return
+    for corners in setting.regions.values():
+        seen = set()
+        for p in samples(corners):
+            if setting.is_free(p) and (mask := setting.mask(p)) not in seen:
+                seen.add(mask)
+                yield lowest(p), mask, setting.free[mask]
+
+
+def notes_of(terms: list[Term], setting: Setting) -> dict[int, str]:
+    """A true note before each term and each literal."""
+    notes, points = {}, list(shown(setting))
+    for node, at, bit in node_numbers(terms):
+        less = terms[at].without(bit)
+        found = "undecided"
+        for p, mask, odd in points:
+            if odd != bool(bit) and (less.holds(mask) if bit else is_own(terms, at, mask)):
+                found = " ".join(map(str, p))
+                break
+        notes[node] = f"{'out' if bit else 'own'} {found}"
+    return notes
+
+
+def formula(setting: Setting) -> tuple[list[Term], bytes, int]:
+    """Terms, their text, and how many of its notes are undecided."""
+    terms = cover(setting.lean, len(setting.leaves))
+    notes = notes_of(terms, setting)
+    undecided = sum(note.endswith("undecided") for note in notes.values())
+    return terms, layout(setting.head(), tree_of(terms, setting), notes), undecided
+
+
+def written(given: Given) -> bytes:
+    """What a lawful run writes."""
+    request = given.request
+    if request.command == "side":
+        return side_answer(given)
+    if request.command == "trial":
+        setting = trial_setting(request)
+        terms, text, undecided = formula(setting)
+        literals = sum(len(term.literals()) for term in terms)
+        return text + summary(request.kind, request.steps, setting, len(terms), literals, undecided)
+    if request.command == "prism":
+        settings = settings_of(given)
+        trees = [tree_of(cover(setting.lean, len(setting.leaves)), setting) for setting in settings]
+        return laid_out(given, settings, [[line for line, _ in node_lines(tree)] for tree in trees])
+    if given.tree is not None:
+        if request.command == "audit":
+            p = Audit(given.faces[0], given.tree).difference()
+            return f"differs {' '.join(map(str, lowest(p)))}\n".encode() if p else b"same\n"
+        return ask_answer(given.tree, request) if request.command == "ask" else upgrade(given.tree)
+    setting = Setting(given.elements, given.faces, request.kind, request.operation)
+    if request.command == "factor":
+        terms = cover(setting.every, len(setting.leaves))
+        return layout(setting.head(), Node("union", tuple(factored(terms, setting))))
+    return formula(setting)[1]
+
+
+def answer(words: Sequence[str], data: bytes) -> Run:
+    """A lawful run."""
+    try:
+        return Run(0, written(read_given(words, data)), b"")
+    except Stop as stop:
+        return Run(stop.status, b"", stop.line.encode() + b"\n")

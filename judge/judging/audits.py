@@ -1,0 +1,78 @@
+"""Audits: whether a mesh and a tree agree at each point of the box that is on no plane of either."""
+
+from __future__ import annotations
+
+import random
+import re
+from math import gcd
+
+from .cells import cells_of, inner
+from .formulas import Wrong
+from .meshes import Face
+from .parity import MeshParity
+from .tables import audit_limit, box_of, plane_at, value
+from .trees import Leaf, Numbers, Point, Tree, holds, holds_where, leaves_of
+
+ANSWER = re.compile(rb"differs (-?[0-9]{1,300}) (-?[0-9]{1,300}) (-?[0-9]{1,300}) ([0-9]{1,300})\n")
+
+
+class Audit:
+    """A mesh and a tree of one audit."""
+
+    def __init__(self, faces: list[Face], tree: Tree) -> None:
+        self.tree = tree
+        self.rows = audit_limit(faces, tree)
+        self.box = box_of([], faces, 3)
+        self.mesh = MeshParity(faces)
+
+    def difference(self) -> Point | None:
+        """A point where mesh and tree differ: the inner one of a cell."""
+        sides = {leaf: side_of_slab(leaf, self.rows) for leaf in leaves_of(self.tree)}
+        for mask, corners in cells_of(self.box, self.rows).items():
+            in_cell = {leaf: bool(mask & bit) == above for leaf, (bit, above) in sides.items()}
+            p = inner(corners)
+            if self.mesh.is_odd(p) != holds_where(self.tree, in_cell.__getitem__):
+                return p
+        return None
+
+    def fault(self, p: Point) -> str | None:
+        """Why a point is no answer."""
+        w = p[-1]
+        if w < 1 or gcd(*p) != 1:
+            return "is not in lowest terms"
+        if not all(low * w < x < high * w for x, low, high in zip(p, *self.box)):
+            return "is not strictly inside the box"
+        if not all(value(row, p) for row in self.rows):
+            return "is on a plane of the mesh or of the text"
+        return None if self.mesh.is_odd(p) != holds(self.tree, p) else "is where mesh and text agree"
+
+
+def side_of_slab(leaf: Leaf, rows: list[Numbers]) -> tuple[int, bool]:
+    """The bit of a slab's plane, and whether the slab is on its Above side; of a block no bit, and True."""
+    if leaf.kind == "block":
+        return 0, False
+    o, n = leaf.numbers[:3], leaf.numbers[3:]
+    row = plane_at((o[0], o[1], o[2]), (n[0], n[1], n[2]))
+    return 1 << rows.index(row), sum(a * b for a, b in zip(row, n)) > 0
+
+
+def check_audit(text: bytes, faces: list[Face], tree: Tree, count: int, dice: random.Random) -> None:
+    """Wrong where the answer of an audit is."""
+    audit = Audit(faces, tree)
+    if text != b"same\n":
+        found = ANSWER.fullmatch(text)
+        if found is None:
+            raise Wrong(f"no answer of an audit: {text[:80]!r}")
+        p = tuple(map(int, found.groups()))
+        fault = audit.fault(p)
+        if fault or b"differs %d %d %d %d\n" % p != text:
+            raise Wrong(f"the point {p} {fault or 'is not written plainly'}")
+        return
+    differing = audit.difference()
+    if differing is not None:
+        raise Wrong(f"`same`, and mesh and text differ at {differing}")
+    for _ in range(count):
+        w = dice.choice((2, 3, 7, 64, 1021))
+        p = tuple(dice.randint(low * w, high * w) for low, high in zip(*audit.box)) + (w,)
+        if audit.fault(p) is None:
+            raise Wrong(f"`same`, and mesh and text differ at {p}")

@@ -1,0 +1,84 @@
+"""Lines, words and numbers of a text, and how a refusal is told."""
+
+from __future__ import annotations
+
+import re
+from typing import Iterable
+
+BLANKS = b" \t\r"
+NUMBER = re.compile(rb"[+-]?(?:[0-9]+\.?[0-9]*|\.[0-9]+)")
+FARTHEST = 1 << 62
+BOUNDARY_BYTES = 1_048_576
+TREE_BYTES = 268_435_456
+JOINED_BYTES = 2_097_160
+REACH = 1023
+
+
+def farthest(numbers: Iterable[int]) -> int:
+    """The greatest size of some numbers."""
+    return max(abs(x) for x in numbers)
+
+
+class Stop(Exception):
+    """A run that ends without an answer: its exit status and its line on standard error."""
+
+    def __init__(self, status: int, line: str) -> None:
+        super().__init__(line)
+        self.status = status
+        self.line = line
+
+
+class Refusal(Stop):
+    """A refusal; `why` is what stands behind `refused: `."""
+
+    def __init__(self, why: str) -> None:
+        super().__init__(2, "refused: " + why)
+        self.why = why
+
+
+def at_word(name: str, line: int, word: int) -> Refusal:
+    """A fault of a word, or of a line where the word is 0."""
+    return Refusal(f"{name} line {line}" + (f" word {word}" if word else ""))
+
+
+def lines_of(text: bytes) -> list[bytes]:
+    """The pieces between LFs; an empty piece behind the last LF is no line."""
+    pieces = text.split(b"\n")
+    if pieces[-1] == b"":
+        pieces.pop()
+    return pieces
+
+
+def whole_value(number: bytes) -> int | None:
+    """What a number says, or None where a digit behind its point is not 0. Past 2^62 it is 2^62."""
+    before, _, behind = number.lstrip(b"+-").partition(b".")
+    if behind.strip(b"0"):
+        return None
+    digits = before.lstrip(b"0") or b"0"
+    size = FARTHEST if len(digits) > 19 else min(int(digits), FARTHEST)
+    return -size if number.startswith(b"-") else size
+
+
+def number_word(word: bytes) -> int | str:
+    """The whole value of a word, or the name of what is wrong with it."""
+    if not NUMBER.fullmatch(word):
+        return "BadWord"
+    value = whole_value(word)
+    return "NotWhole" if value is None else value
+
+
+def hash_words(line: bytes) -> list[bytes]:
+    """The pieces between blanks before the line's first `#`."""
+    return [w for w in re.split(rb"[ \t\r]+", line.partition(b"#")[0]) if w]
+
+
+def parts_of(text: bytes) -> tuple[bytes, bytes]:
+    """What stands before the first line `====` and behind its LF."""
+    start = 0
+    while start < len(text):
+        end = text.find(b"\n", start)
+        end = len(text) if end < 0 else end
+        if text[start:end] in (b"====", b"====\r"):
+            return text[:start], text[end + 1 :]
+        start = end + 1
+    raise Refusal("NoPart")
