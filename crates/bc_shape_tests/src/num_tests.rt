@@ -1,5 +1,5 @@
-//! Divisors, lowest terms, primitive vectors, reaches of circles and coordinates at their bounds and near them, and
-//! lists that take items.
+//! Divisors, lowest terms, primitive vectors, reaches of circles, coordinates about their bounds, and lists that take
+//! items.
 use bc_num::*;
 use std::alloc::Global;
 use std::test::Fail;

@@ -1,3 +1,5 @@
+//! Closed contours that are checked: how many elements they have, and each of them by its number. Only `contour_check`
+//! and the join of two profiles make them.
 ghost use Rattle.std.specs.Prelude.{◌≡◌, ◌≤◌, ◌<◌, ◌^◌, length, slice_get, Some};
 ghost use Rattle.bc_solid.specs.Closed.{AreNear, IsProfile};
 

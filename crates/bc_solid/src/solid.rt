@@ -1,3 +1,5 @@
+//! A closed mesh that is checked: how many faces it has, and the corners and the plane of each. Only `mesh_check`
+//! makes one.
 ghost use Rattle.std.specs.Prelude.{◌≡◌, ◌≤◌, ◌<◌, ◌^◌, length, slice_get, Some};
 ghost use Rattle.bc_num.specs.Sizes.{AreCoords3};
 ghost use Rattle.bc_space.specs.Planes.{IsSizedPlane};
