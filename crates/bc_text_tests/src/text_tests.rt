@@ -1,3 +1,5 @@
+//! The texts of trees against texts written by hand: with a head and notes, through buffers of several sizes, at a
+//! depth, with a write that fails, and without a box.
 ghost use Rattle.std.specs.Prelude.{◌≤◌, ◌<◌, IfOk};
 ghost use Rattle.bc_tree.specs.Shape.{shape, AllLeaves, depth};
 ghost use Rattle.bc_tree.specs.Leaves.{IsLeaf};
