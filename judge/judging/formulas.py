@@ -49,7 +49,7 @@ def check_bytes(got: bytes, wanted: bytes, what: str) -> None:
         ours, theirs = wanted.split(b"\n"), got.split(b"\n")
         for at, (one, other) in enumerate(zip(ours, theirs), 1):
             if one != other:
-                raise Wrong(f"{what}: line {at} is {other.decode(errors='replace')!r}, not {one.decode()!r}")
+                raise Wrong(f"{what}: line {at} is {other!r}, not {one!r}")
         raise Wrong(f"{what}: {len(theirs) - 1} lines in place of {len(ours) - 1}")
 
 
@@ -57,7 +57,7 @@ def read_notes(text: bytes) -> dict[int, str]:
     """The notes of a printed text by the numbers of the nodes that they stand before."""
     notes: dict[int, str] = {}
     number = 0
-    for line in text.decode(errors="replace").split("\n"):
+    for line in text.decode().split("\n"):
         if NOTE.fullmatch(line):
             if number in notes:
                 raise Wrong(f"two notes before node {number}")

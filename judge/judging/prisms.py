@@ -39,7 +39,7 @@ def laid_out(given: Given, settings: list[Setting], trees: list[list[str]]) -> b
 def trees_in(text: bytes) -> list[list[str]]:
     """The lines of each layer's tree, without the blanks before them."""
     trees: list[list[str]] = []
-    for line in text.decode(errors="replace").split("\n")[3:]:
+    for line in text.decode().split("\n")[3:]:
         if line.startswith("  translate("):
             trees.append([])
         elif line.startswith("    ") and trees:

@@ -151,6 +151,15 @@ def limit_of(request: Request) -> int:
     )
 
 
+def bytes_taken(words: Sequence[str], data: bytes) -> int:
+    """How many bytes of its input a run reads: none where the words decide, one past the limit, or all."""
+    try:
+        request = request_of(words)
+    except Stop:
+        return 0
+    return 0 if request.command == "trial" else min(len(data), limit_of(request) + 1)
+
+
 def read_given(words: Sequence[str], data: bytes) -> Given:
     """What words and bytes ask for, or the first fault in the stated order."""
     request = request_of(words)

@@ -3,6 +3,7 @@
 from __future__ import annotations
 
 import random
+import re
 from typing import NamedTuple, Sequence
 
 from .audits import check_audit
@@ -10,7 +11,7 @@ from .factored import check_factored
 from .formulas import Wrong, check_bytes, check_formula
 from .parity import MeshParity, is_edge_flat, is_edge_solid, is_odd_flat
 from .prisms import check_prism
-from .requests import Given, Request, read_boundary, read_given
+from .requests import Given, Request, bytes_taken, read_boundary, read_given
 from .setting import Setting
 from .texts import Stop
 from .trees import Tree, holds, is_edge, is_flat, upgrade
@@ -18,11 +19,12 @@ from .trials import plate, stair, summary
 
 
 class Run(NamedTuple):
-    """How a run ended and what it wrote."""
+    """How a run ended, what it wrote, and how many bytes of its input it read, where this is known."""
 
     status: int
     out: bytes
     err: bytes
+    read: int | None = None
 
 
 def side_answer(given: Given) -> bytes:
@@ -93,10 +95,14 @@ def verdict(words: Sequence[str], data: bytes, run: Run, count: int = 1000, seed
     except Stop as stop:
         status, line = stop.status, stop.line + "\n"
     if run.status != status or run.err != line.encode():
-        told = run.err[:200].decode(errors="replace")
-        return f"exit {run.status} with {told!r} on standard error, not exit {status} with {line!r}"
+        return f"exit {run.status} with {run.err[:200]!r} on standard error, not exit {status} with {line.encode()!r}"
+    if run.read not in (None, bytes_taken(words, data)):
+        return f"{run.read} bytes of the input were read, not {bytes_taken(words, data)}"
     if given is None:
         return f"{len(run.out)} bytes on standard output of a refused run" if run.out else None
+    strange = re.search(rb"[^\x00-\x7f]", run.out)
+    if strange:
+        return f"byte {strange.start()} of standard output is {strange.group()!r}, which no text has"
     try:
         check_out(given, run.out, count, random.Random(seed))
     except Wrong as wrong:
