@@ -12,7 +12,7 @@ from .formulas import Term, read_laid_out, terms_of, tree_of
 from .requests import read_given
 from .setting import Setting
 from .trees import layout, leaf_words
-from .verdicts import Run, verdict
+from .verdicts import Run, setting_of, verdict
 
 Edit = Callable[[Run], Run]
 
@@ -79,15 +79,9 @@ def case(words: str, data: str) -> Case:
     return Case(words.split(), data.encode())
 
 
-def setting_of(of: Case) -> Setting:
-    """The boundary of a case."""
-    given = read_given(*of)
-    return Setting(given.elements, given.faces, given.request.kind, given.request.operation)
-
-
 def retold(of: Case, change: Callable[[list[Term], Setting], list[Term]]) -> Edit:
     """Other terms, with the notes that fit them best."""
-    setting = setting_of(of)
+    setting = setting_of(read_given(*of))
 
     def edit(run: Run) -> Run:
         tree, _ = read_laid_out(run.out, setting.head(), True)
@@ -192,7 +186,7 @@ def of_notes() -> Iterator[tuple[str, Case, Edit]]:
 def of_factored() -> Iterator[tuple[str, Case, Edit]]:
     """Wrong texts of `factor`."""
     two = case("factor contour", TWO)
-    setting = setting_of(two)
+    setting = setting_of(read_given(*two))
     plain = layout(setting.head(), tree_of(formula(setting)[0], setting))
     yield "factored terms written plainly", two, lambda run: run._replace(out=plain)
     yield "a note in a factored text", two, swap("  difference", "  // own 1 1 2\n  difference")
@@ -245,7 +239,7 @@ def of_points() -> Iterator[tuple[str, Case, Edit]]:
 
 def of_audits() -> Iterator[tuple[str, Case, Edit]]:
     """Wrong answers of `audit`."""
-    *above, last = (leaf_words(leaf) + ";" for leaf in setting_of(case("convert off", TETRA)).leaves)
+    *above, last = (leaf_words(leaf) + ";" for leaf in setting_of(read_given(*case("convert off", TETRA))).leaves)
     product = f"intersection(){{translate([-1,-1,-1]) cube([3,3,3]);{''.join(above)}}}"
     other = case("audit", f"{TETRA}====\n{product}")
     same = case("audit", f"{TETRA}====\ndifference(){{{product}{last}}}")
