@@ -6,13 +6,13 @@ from typing import Iterable, Sequence
 
 from .audits import Audit
 from .discs import samples
-from .factored import factored
+from .factored import factored_tree
 from .formulas import Term, is_own, node_numbers, tree_of
 from .prisms import laid_out, settings_of
 from .requests import Given, bytes_taken, read_given
 from .setting import Setting
 from .texts import Stop, spaced
-from .trees import Node, layout, node_lines
+from .trees import layout, node_lines
 from .vectors import Point, lowest
 from .verdicts import Run, forced, setting_of, summary
 
@@ -88,8 +88,7 @@ def written(given: Given) -> bytes:
         return laid_out(given, settings, [[line for line, _ in node_lines(tree)] for tree in trees])
     setting = setting_of(given)
     if command == "factor":
-        terms = cover(setting.every, len(setting.leaves))
-        return layout(setting.head(), Node("union", tuple(factored(terms, setting))))
+        return layout(setting.head(), factored_tree(cover(setting.every, len(setting.leaves)), setting))
     terms, text, undecided = formula(setting)
     return text + (summary(given.request, setting, terms, undecided) if command == "trial" else b"")
 

@@ -42,7 +42,7 @@ def table(name: str) -> Iterator[tuple[str, list[str]]]:
     for number, line in enumerate((FOLDER / name).read_text().split("\n"), 1):
         if line.startswith("#"):
             continue
-        line = re.sub(r"<([\w-]+)>", lambda found: names[found[1]], line)
+        line = re.sub(r"<([a-z][\w-]*)>", lambda found: names[found[1]], line)
         if line.startswith("= "):
             key, _, names[key] = line[2:].partition(" | ")
         elif line:
@@ -56,7 +56,7 @@ def unfolded(text: str) -> bytes:
         number = re.compile(r"@([+-]\d+)?")
         return "".join(number.sub(lambda sign: str(k + int(sign[1] or 0)), found[1]) for k in range(int(found[2])))
 
-    plain = re.sub(r"<([^<>]*)\*(\d+)>", again, text.replace(" / ", "\n"))
+    plain = re.sub(r"<([^<>]*)\*(\d+)>", again, re.sub(r" /( |$)", "\n", text))
     return plain.encode().decode("unicode_escape").encode("latin-1")
 
 

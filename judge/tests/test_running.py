@@ -10,8 +10,8 @@ from pathlib import Path
 from typing import Iterator
 
 from judging.answers import answer
-from judging.cases import MAKERS, make_case
-from judging.plants import missed
+from judging.cases import MAKERS, Case, make_case
+from judging.plants import Plant, missed
 from judging.requests import bytes_taken
 from judging.running import Failed, NoProgram, run_program
 from judging.shrinking import shrunk
@@ -118,8 +118,13 @@ class RunningTest(unittest.TestCase):
                 words, data = make_case(command, 3, number)
                 self.assertIsNone(verdict(words, data, answer(words, data), 10), f"{command} {number}")
 
-    def test_planted_answers(self) -> None:
-        self.assertEqual(list(missed()), [])
+    def test_selfcheck(self) -> None:
+        ended = subprocess.run([JUDGE / "selfcheck"], capture_output=True, text=True)
+        self.assertEqual((ended.returncode, ended.stderr), (0, ""), ended.stdout)
+        right = answer(["upgrade"], b"union(){}")
+        for wrong, told in ((right, "is not spoiled"), (right._replace(read=None), "not found")):
+            plant = Plant("x", Case(["upgrade"], b"union(){}"), right, wrong)
+            self.assertIn(told, " ".join(missed(plant)))
 
 
 if __name__ == "__main__":
