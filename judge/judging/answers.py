@@ -5,17 +5,16 @@ from __future__ import annotations
 from typing import Iterable, Sequence
 
 from .audits import Audit
-from .cells import lowest
-from .factored import factored
+from .discs import samples
+from .factored import factored_tree
 from .formulas import Term, is_own, node_numbers, tree_of
 from .prisms import laid_out, settings_of
-from .requests import Given, read_given
+from .requests import Given, bytes_taken, read_given
 from .setting import Setting
-from .texts import Stop
-from .trees import Node, Point, layout, node_lines, upgrade
-from .trials import summary
-from .verdicts import Run, ask_answer, side_answer, trial_setting
-from .discs import samples
+from .texts import Stop, spaced
+from .trees import layout, node_lines
+from .vectors import Point, lowest
+from .verdicts import Run, forced, setting_of, summary
 
 
 def cover(masks: dict[int, bool], count: int) -> list[Term]:
@@ -47,7 +46,7 @@ def shown(setting: Setting) -> Iterable[tuple[Point, int, bool]]:
     for corners in setting.regions.values():
         seen = set()
         for p in samples(corners):
-            if setting.is_free(p) and (mask := setting.mask(p)) not in seen:
+            if setting.is_free(p) and (mask := setting.table.mask(p)) not in seen:
                 seen.add(mask)
                 yield lowest(p), mask, setting.free[mask]
 
@@ -60,7 +59,7 @@ def notes_of(terms: list[Term], setting: Setting) -> dict[int, str]:
         found = "undecided"
         for p, mask, odd in points:
             if odd != bool(bit) and (less.holds(mask) if bit else is_own(terms, at, mask)):
-                found = " ".join(map(str, p))
+                found = spaced(p)
                 break
         notes[node] = f"{'out' if bit else 'own'} {found}"
     return notes
@@ -76,33 +75,28 @@ def formula(setting: Setting) -> tuple[list[Term], bytes, int]:
 
 def written(given: Given) -> bytes:
     """What a lawful run writes."""
-    request = given.request
-    if request.command == "side":
-        return side_answer(given)
-    if request.command == "trial":
-        setting = trial_setting(request)
-        terms, text, undecided = formula(setting)
-        literals = sum(len(term.literals()) for term in terms)
-        return text + summary(request.kind, request.steps, setting, len(terms), literals, undecided)
-    if request.command == "prism":
+    command = given.request.command
+    if command == "audit":
+        assert given.tree is not None
+        p = Audit(given.boundaries[0], given.tree).difference()
+        return f"differs {spaced(lowest(p))}\n".encode() if p else b"same\n"
+    if command in ("side", "ask", "upgrade"):
+        return forced(given)
+    if command == "prism":
         settings = settings_of(given)
         trees = [tree_of(cover(setting.lean, len(setting.leaves)), setting) for setting in settings]
         return laid_out(given, settings, [[line for line, _ in node_lines(tree)] for tree in trees])
-    if given.tree is not None:
-        if request.command == "audit":
-            p = Audit(given.faces[0], given.tree).difference()
-            return f"differs {' '.join(map(str, lowest(p)))}\n".encode() if p else b"same\n"
-        return ask_answer(given.tree, request) if request.command == "ask" else upgrade(given.tree)
-    setting = Setting(given.elements, given.faces, request.kind, request.operation)
-    if request.command == "factor":
-        terms = cover(setting.every, len(setting.leaves))
-        return layout(setting.head(), Node("union", tuple(factored(terms, setting))))
-    return formula(setting)[1]
+    setting = setting_of(given)
+    if command == "factor":
+        return layout(setting.head(), factored_tree(cover(setting.every, len(setting.leaves)), setting))
+    terms, text, undecided = formula(setting)
+    return text + (summary(given.request, setting, terms, undecided) if command == "trial" else b"")
 
 
 def answer(words: Sequence[str], data: bytes) -> Run:
     """A lawful run."""
+    read = bytes_taken(words, data)
     try:
-        return Run(0, written(read_given(words, data)), b"")
+        return Run(0, written(read_given(words, data)), b"", read)
     except Stop as stop:
-        return Run(stop.status, b"", stop.line.encode() + b"\n")
+        return Run(stop.status, b"", stop.line.encode() + b"\n", read)

@@ -8,10 +8,10 @@ from math import gcd
 
 from .cells import cells_of, inner
 from .formulas import Wrong
-from .meshes import Face
-from .parity import MeshParity
-from .tables import audit_limit, box_of, plane_at, value
-from .trees import Leaf, Numbers, Point, Tree, holds, holds_where, leaves_of
+from .parity import odd_of
+from .tables import Boundary, audit_planes, box_of, plane_of_slab
+from .trees import Leaf, Tree, holds, holds_where, leaves_of
+from .vectors import Numbers, Point, dot, is_within
 
 ANSWER = re.compile(rb"differs (-?[0-9]{1,300}) (-?[0-9]{1,300}) (-?[0-9]{1,300}) ([0-9]{1,300})\n")
 
@@ -19,11 +19,11 @@ ANSWER = re.compile(rb"differs (-?[0-9]{1,300}) (-?[0-9]{1,300}) (-?[0-9]{1,300}
 class Audit:
     """A mesh and a tree of one audit."""
 
-    def __init__(self, faces: list[Face], tree: Tree) -> None:
+    def __init__(self, mesh: Boundary, tree: Tree) -> None:
         self.tree = tree
-        self.rows = audit_limit(faces, tree)
-        self.box = box_of([], faces, 3)
-        self.mesh = MeshParity(faces)
+        self.rows = audit_planes(mesh, tree)
+        self.box = box_of(mesh)
+        self.is_odd = odd_of(mesh)
 
     def difference(self) -> Point | None:
         """A point where mesh and tree differ: the inner one of a cell."""
@@ -31,34 +31,31 @@ class Audit:
         for mask, corners in cells_of(self.box, self.rows).items():
             in_cell = {leaf: bool(mask & bit) == above for leaf, (bit, above) in sides.items()}
             p = inner(corners)
-            if self.mesh.is_odd(p) != holds_where(self.tree, in_cell.__getitem__):
+            if self.is_odd(p) != holds_where(self.tree, in_cell.__getitem__):
                 return p
         return None
 
     def fault(self, p: Point) -> str | None:
         """Why a point is no answer."""
-        w = p[-1]
-        if w < 1 or gcd(*p) != 1:
+        if p[-1] < 1 or gcd(*p) != 1:
             return "is not in lowest terms"
-        if not all(low * w < x < high * w for x, low, high in zip(p, *self.box)):
+        if not is_within(self.box, p, strictly=True):
             return "is not strictly inside the box"
-        if not all(value(row, p) for row in self.rows):
+        if not all(dot(row, p) for row in self.rows):
             return "is on a plane of the mesh or of the text"
-        return None if self.mesh.is_odd(p) != holds(self.tree, p) else "is where mesh and text agree"
+        return None if self.is_odd(p) != holds(self.tree, p) else "is where mesh and text agree"
 
 
 def side_of_slab(leaf: Leaf, rows: list[Numbers]) -> tuple[int, bool]:
-    """The bit of a slab's plane, and whether the slab is on its Above side; of a block no bit, and True."""
+    """The bit of a slab's plane, and whether the slab is on its Above side; the block, which is all, has no bit."""
     if leaf.kind == "block":
         return 0, False
-    o, n = leaf.numbers[:3], leaf.numbers[3:]
-    row = plane_at((o[0], o[1], o[2]), (n[0], n[1], n[2]))
-    return 1 << rows.index(row), sum(a * b for a, b in zip(row, n)) > 0
+    row = plane_of_slab(leaf)
+    return 1 << rows.index(row), dot(row, leaf.normal) > 0
 
 
-def check_audit(text: bytes, faces: list[Face], tree: Tree, count: int, dice: random.Random) -> None:
+def check_audit(text: bytes, audit: Audit, count: int, dice: random.Random) -> None:
     """Wrong where the answer of an audit is."""
-    audit = Audit(faces, tree)
     if text != b"same\n":
         found = ANSWER.fullmatch(text)
         if found is None:

@@ -14,7 +14,9 @@ from .meshes import Face, check_mesh, edges_of
 from .requests import read_boundary
 from .setting import Setting
 from .texts import BOUNDARY_BYTES, JOINED_BYTES, Refusal
-from .trees import Leaf, Node, Numbers, Tree, frame_of, layout, leaf_words, leaves_of, normal_of_leaf
+from .tables import Boundary
+from .trees import Leaf, Node, Tree, amounts, layout, leaf_words, leaves_of
+from .vectors import Numbers
 
 CONTOUR_FAULTS = (
     "X1.5|G91|G18|Q5|X|G1.5|M1|X1 X2|(|Z1 X2|I2000 J3|G02 X1|G80 X1|R5|#1|G0 G1|X1024|Y-1024|Y1e3|X--1|X+.|M3.5|N"
@@ -147,11 +149,11 @@ def numbers_in(data: bytes) -> list[int]:
 def near_edge(kind: str, data: bytes, dice: Dice) -> list[str]:
     """A point in the column of a corner or of a place on an edge, above or below it, where the text is lawful."""
     try:
-        elements, faces = read_boundary(kind, data)
+        boundary = read_boundary(kind, data)
     except Refusal:
         return []
-    ends: list[tuple[Numbers, Numbers]] = [edge for face in faces for edge in edges_of(face)]
-    for element in elements:
+    ends: list[tuple[Numbers, Numbers]] = [edge for face in boundary.faces for edge in edges_of(face)]
+    for element in boundary.elements:
         ends += [(element.a, element.b), (element.centre or element.a, element.b)]
     if not ends:
         return []
@@ -238,7 +240,7 @@ def formula_text(dice: Dice) -> tuple[str, Setting]:
             check_mesh(faces)
         except Refusal:
             continue
-        setting = Setting((whole,), (faces,), kind)
+        setting = Setting((Boundary(kind, whole, faces),))
         if len(setting.leaves) <= 9:
             return formula(setting)[1].decode(), setting
 
@@ -268,18 +270,16 @@ def near_leaf(data: bytes, dice: Dice) -> list[str]:
     if not leaves:
         return []
     leaf = dice.choice(leaves)
-    x, size = leaf.numbers, len(leaf.numbers) // 2
+    x = leaf.numbers
     if leaf.kind == "disc":
         steps = [(k, isqrt(max(0, x[2] - k * k))) for k in range(isqrt(x[2]) + 1)][:99]
         i, j = dice.choice([step for step in steps if step[0] ** 2 + step[1] ** 2 == x[2]] or steps)
         p = [x[0] - i, x[1] + j]
-    elif leaf.kind in ("tile", "block"):
-        p = [o + dice.choice((0, side, side // 2)) for o, side in zip(x, x[size:])]
     else:
-        n = normal_of_leaf(leaf)
-        ways = [x[2:]] if size == 2 else list(frame_of(n))
-        far = [dice.choice((0, 8192, 1)), *(dice.choice((0, 8192, -8192, 1)) for _ in ways)]
-        p = [o + sum(k * way[at] for k, way in zip(far, (n, *ways))) for at, o in enumerate(x[:size])]
+        p = list(leaf.origin)
+        for way, low, high in amounts(leaf):
+            k = dice.choice((low, high, 0, 1, high // 2))
+            p = [o + k * step for o, step in zip(p, way)]
     w = dice.choice((1, 1, 3))
     p = [k * w + dice.choice((0, 0, 0, 1, -1)) for k in p]
     return [str(k) for k in [*p, 0][:3]] + [str(w)]
@@ -323,9 +323,9 @@ def audit_case(dice: Dice) -> Case:
     if dice.odds(8):
         first = worse_mesh(faces, dice)
     try:
-        setting = Setting((), (check_mesh(faces),), "off")
+        setting = Setting((Boundary("off", [], check_mesh(faces)),))
     except Refusal:
-        setting = Setting((), ([],), "off")
+        setting = Setting((Boundary("off", [], []),))
     if len(setting.leaves) <= 10 and dice.odds(75):
         node = tree_of(cover(setting.free, len(setting.leaves)), setting)
         for _ in range(dice.choice((0, 0, 1, 1, 2, 3))):

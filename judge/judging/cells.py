@@ -3,31 +3,18 @@
 from __future__ import annotations
 
 from itertools import combinations
-from math import gcd
 from typing import Iterator
 
-from .tables import Box, leading, value, walls_of
-from .trees import Numbers, Point
+from .tables import Box, walls_of
+from .vectors import Numbers, Point, cross, dot, is_within, leading, lowest, opposite
 
 Cells = dict[int, list[Point]]
-
-
-def lowest(p: Numbers) -> Point:
-    """The same point in lowest terms, its denominator above 0."""
-    common = gcd(*p)
-    common = -common if p[-1] < 0 else common
-    return tuple(x // common for x in p)
-
-
-def cross3(a: Numbers, b: Numbers) -> Numbers:
-    """The cross product of the first three numbers of each."""
-    return (a[1] * b[2] - a[2] * b[1], a[2] * b[0] - a[0] * b[2], a[0] * b[1] - a[1] * b[0])
 
 
 def vertices_flat(rows: list[Numbers]) -> Iterator[Point]:
     """The common points of two lines."""
     for a, b in combinations(rows, 2):
-        p = cross3(a, b)
+        p = cross(a, b)
         if p[2]:
             yield lowest(p)
 
@@ -58,7 +45,7 @@ def signs(rows: list[Numbers], zeros: list[int], along: Numbers) -> tuple[int, l
     """Of the rows with no sign yet those that rise along a direction, as bits, and those that have none still."""
     above, rest = 0, []
     for at in zeros:
-        rise = value(rows[at][:-1], along)
+        rise = dot(rows[at][:-1], along)
         if rise > 0:
             above |= 1 << at
         elif rise == 0:
@@ -68,14 +55,14 @@ def signs(rows: list[Numbers], zeros: list[int], along: Numbers) -> tuple[int, l
 
 def both(v: Numbers) -> tuple[Numbers, Numbers]:
     """A direction and the one against it."""
-    return v, tuple(-x for x in v)
+    return v, opposite(v)
 
 
 def round_ray(rows: list[Numbers], zeros: list[int], ray: Numbers) -> Iterator[int]:
     """The signs round a ray of the planes that hold it: along each plane, then off it."""
     for at in zeros:
         normal = rows[at][:-1]
-        for along in both(cross3(ray, normal)):
+        for along in both(cross(ray, normal)):
             above, rest = signs(rows, zeros, along)
             for off in both(normal):
                 yield above | signs(rows, rest, off)[0]
@@ -97,18 +84,12 @@ def round_vertex(rows: list[Numbers], zeros: list[int]) -> set[int]:
                 above, rest = signs(rows, zeros, along)
                 found.update(above | signs(rows, rest, off)[0] for off in both(normal))
         return found
-    rays = [cross3(rows[a], rows[b]) for a, b in combinations(zeros, 2)]
+    rays = [cross(rows[a], rows[b]) for a, b in combinations(zeros, 2)]
     for ray in {leading(ray) for ray in rays if any(ray)}:
         for along in both(ray):
             above, rest = signs(rows, zeros, along)
             found.update(above | mask for mask in round_ray(rows, rest, along))
     return found
-
-
-def is_within(box: Box, p: Point) -> bool:
-    """Whether a point is in the closed box."""
-    w = p[-1]
-    return all(low * w <= x <= high * w for x, low, high in zip(p, *box))
 
 
 def cells_of(box: Box, halves: list[Numbers]) -> Cells:
@@ -119,12 +100,12 @@ def cells_of(box: Box, halves: list[Numbers]) -> Cells:
     seen: set[Point] = set()
     result: Cells = {}
     for p in vertices_flat(rows) if len(rows[0]) == 3 else vertices_solid(rows):
-        if p in seen or not is_within(box, p):
+        if p in seen or not is_within(box, p, strictly=False):
             continue
         seen.add(p)
         above, zeros = 0, []
         for at, row in enumerate(rows):
-            side = sum(map(int.__mul__, row, p))
+            side = dot(row, p)
             if side > 0:
                 above |= 1 << at
             elif side == 0:

@@ -2,14 +2,17 @@
 
 from __future__ import annotations
 
+import re
 from typing import Iterator, NamedTuple
 
-from .texts import BLANKS, NUMBER, REACH, Refusal, at_word, farthest, lines_of, whole_value
+from .texts import BLANKS, NUMBER, REACH, Refusal, at_word, lines_of, whole_value
+from .vectors import Numbers, farthest
 
 Place = tuple[int, int]
 IGNORED_G = {17, 20, 21, 40, 49, 54, 90, 94}
 MODES = {0, 1, 2, 3, 80}
 MOST_ELEMENTS = 512
+WORD = re.compile(rb"([A-Za-z])[ \t\r]*(" + NUMBER.pattern + rb")")
 
 
 class Element(NamedTuple):
@@ -26,14 +29,9 @@ class Element(NamedTuple):
         return (end[0] - self.centre[0]) ** 2 + (end[1] - self.centre[1]) ** 2
 
     @property
-    def r2(self) -> int:
-        """The squared radius of an arc."""
-        return self.square(self.a)
-
-    @property
-    def is_circle(self) -> bool:
-        """Whether this is an arc whose ends are one place."""
-        return self.centre is not None and self.a == self.b
+    def disc(self) -> Numbers | None:
+        """The disc of an arc: its centre and its squared radius."""
+        return None if self.centre is None else (*self.centre, self.square(self.a))
 
 
 class Word(NamedTuple):
@@ -49,24 +47,19 @@ def words_of(line: bytes, at: int) -> Iterator[Word]:
     place, nth = 0, 0
     if line.lstrip(BLANKS).startswith(b"%"):
         return
-    while place < len(line):
+    while place < len(line) and line[place : place + 1] != b";":
         byte = line[place : place + 1]
-        if byte in (b" ", b"\t", b"\r"):
+        if byte in BLANKS:
             place += 1
-        elif byte == b";":
-            return
         elif byte == b"(" and line.find(b")", place) >= 0:
             place = line.find(b")", place) + 1
         else:
             nth += 1
-            behind = place + 1
-            while line[behind : behind + 1] in (b" ", b"\t", b"\r"):
-                behind += 1
-            number = NUMBER.match(line, behind)
-            if not byte.isalpha() or number is None:
+            word = WORD.match(line, place)
+            if word is None:
                 raise at_word("BadWord", at, nth)
-            yield Word(byte.decode().upper(), number.group(), nth)
-            place = number.end()
+            yield Word(word.group(1).decode().upper(), word.group(2), nth)
+            place = word.end()
 
 
 class Block:
@@ -186,7 +179,7 @@ def check_contours(elements: list[Element]) -> list[Element]:
             continue
         if element.centre == element.a:
             raise Refusal(f"ZeroRadius element {at}")
-        start, end = element.r2, element.square(element.b)
+        start, end = element.square(element.a), element.square(element.b)
         if start != end:
             raise Refusal(f"SkewArc element {at} start2 {start} end2 {end}")
     return elements

@@ -6,13 +6,17 @@ import re
 from typing import NamedTuple, NoReturn
 
 from .texts import Refusal, lines_of
-from .trees import Leaf, Node, Numbers, Tree, frame_of, is_lawful, leaf_of_box
+from .trees import LONG_BOX, Leaf, Node, Tree, leaf_of_box, matrix_of
+from .vectors import Numbers
 
 FREE = re.compile(rb"(?:[ \t\r\n]+|//[^\n]*)*")
 TOKEN = re.compile(rb"([A-Za-z][A-Za-z0-9_]*)|(-?[0-9]+)|[(){}\[\],;=]")
 LARGEST = 8_388_607
 DEEPEST = 64
 OPERATORS = ("union", "intersection", "difference")
+TWO, THREE, FOUR = "( [ # , # ] )", "( [ # , # , # ] )", "[ # , # , # , # ]"
+MATRIX = f"( [ {FOUR} , {FOUR} , {FOUR} , {FOUR} ] )"
+SHAPES = {"cube": THREE, "square": TWO, "circle": "( r = sqrt ( # ) )"}
 
 
 class Token(NamedTuple):
@@ -84,54 +88,24 @@ class Reader:
             fault("BadNumber", token)
         return int(token.text)
 
-    def vector(self, length: int) -> Numbers:
-        """Takes a list of numbers in brackets."""
-        numbers = []
-        for at in range(length):
-            self.take("," if at else "[")
-            numbers.append(self.number())
-        self.take("]")
-        return tuple(numbers)
-
-    def call(self, length: int) -> Numbers:
-        """Takes a list of numbers in brackets and parentheses."""
-        self.take("(")
-        numbers = self.vector(length)
-        self.take(")")
-        return numbers
-
-    def matrix(self) -> list[Numbers]:
-        """Takes a matrix of four rows."""
-        self.take("(")
-        rows = []
-        for at in range(4):
-            self.take("," if at else "[")
-            rows.append(self.vector(4))
-        self.take("]")
-        self.take(")")
-        return rows
+    def numbers(self, pattern: str) -> Numbers:
+        """Takes the tokens of a pattern; answers the numbers that stand for its `#`."""
+        result = []
+        for token in pattern.split():
+            if token == "#":
+                result.append(self.number())
+            else:
+                self.take(token)
+        return tuple(result)
 
     def leaf(self, first: Token) -> Leaf:
         """A leaf behind its first name, up to its `;`."""
-        rows: list[Numbers] | None = None
-        if first.text == "multmatrix":
-            rows = self.matrix()
-            self.take("translate")
-        least = self.call(3)
-        shape = self.take("cube", "square") if rows else self.take("cube", "square", "circle")
-        leaf: Leaf | None
-        if shape.text == "circle":
-            for mark in ("(", "r", "=", "sqrt", "("):
-                self.take(mark)
-            leaf = Leaf("disc", (*least[:2], self.number()))
-            self.take(")")
-            self.take(")")
-            leaf = leaf if least[2] == 0 and is_lawful(leaf) else None
-        else:
-            flat = shape.text == "square"
-            sides = self.call(2 if flat else 3)
-            leaf = framed(rows, least, sides) if rows else boxed(least, sides)
+        matrix = self.numbers(MATRIX + " translate") if first.text == "multmatrix" else ()
+        least = self.numbers(THREE)
+        shape = self.take("cube", "square") if matrix else self.take(*SHAPES)
+        rest = self.numbers(SHAPES[shape.text])
         self.take(";")
+        leaf = framed(matrix, least, rest) if matrix else plain(least, rest)
         if leaf is None:
             fault("BadFrame", first)
         if self.kind is not None and self.kind != leaf.is_flat:
@@ -157,28 +131,23 @@ class Reader:
         return Node(token.text, tuple(kids))
 
 
-def boxed(least: Numbers, sides: Numbers) -> Leaf | None:
-    """The leaf of a translate and a cube or square."""
-    if len(sides) == 3:
-        return leaf_of_box(least + sides)
-    return leaf_of_box(least[:2] + sides) if least[2] == 0 else None
+def plain(least: Numbers, rest: Numbers) -> Leaf | None:
+    """The leaf of a translate and a shape, or None where the numbers are not those of one."""
+    if len(rest) == 3:
+        return leaf_of_box(least + rest)
+    if least[2]:
+        return None
+    disc = Leaf("disc", least[:2] + rest)
+    return leaf_of_box(least[:2] + rest) if len(rest) == 2 else disc if disc.is_lawful() else None
 
 
-def framed(rows: list[Numbers], least: Numbers, sides: Numbers) -> Leaf | None:
-    """The leaf of a matrix, or None where the numbers are not those of one."""
-    o = tuple(row[3] for row in rows[:3])
-    if len(sides) == 2:
-        leaf = Leaf("strip", (*o[:2], rows[0][0], rows[1][0]))
-        wanted = [(rows[0][0], -rows[1][0], 0, o[0]), (rows[1][0], rows[0][0], 0, o[1]), (0, 0, 1, 0)]
-        lawful = (least, sides) == ((-8192, 0, 0), (16384, 8192))
-    else:
-        n = tuple(row[2] for row in rows[:3])
-        u, v = frame_of(n)
-        leaf = Leaf("slab", o + n)
-        wanted = [(u[k], v[k], n[k], o[k]) for k in range(3)]
-        lawful = (least, sides) == ((-8192, -8192, 0), (16384, 16384, 8192))
-    lawful = lawful and rows == [*wanted, (0, 0, 0, 1)] and is_lawful(leaf)
-    return leaf if lawful else None
+def framed(matrix: Numbers, least: Numbers, sides: Numbers) -> Leaf | None:
+    """The leaf of a matrix, a translate and a shape, or None where the numbers are not those of one."""
+    u, n, o = matrix[0:12:4], matrix[2:12:4], matrix[3:12:4]
+    leaf = Leaf("strip", o[:2] + u[:2]) if len(sides) == 2 else Leaf("slab", o + n)
+    rows = [matrix[at : at + 4] for at in range(0, 16, 4)]
+    is_one = leaf.is_lawful() and rows == matrix_of(leaf) and (least, sides) == LONG_BOX[leaf.kind]
+    return leaf if is_one else None
 
 
 def read_tree(text: bytes) -> Tree:

@@ -6,8 +6,8 @@ from itertools import combinations
 from typing import Iterator, NamedTuple
 
 from .cells import Cells
-from .tables import Box, Table, disc_value, value, walls_of
-from .trees import Numbers, Point
+from .tables import Box, Table, walls_of
+from .vectors import Numbers, Point, disc_value, opposite
 
 WEIGHTS = [(i, j, k) for i in range(1, 7) for j in range(1, 7) for k in range(1, 7) if i + j + k <= 8]
 
@@ -65,7 +65,7 @@ def is_exceeded(disc: Numbers, other: Numbers, corners: list[Point]) -> bool:
 def rules_of(box: Box, table: Table, mask: int, corners: list[Point], lean: bool) -> Rules:
     """The rules at one region: those of candidates, and of lean ones where these are asked for."""
     rows = [half.row for half in table.flat]
-    sides = [row if mask >> at & 1 else tuple(-x for x in row) for at, row in enumerate(rows)] + walls_of(box)
+    sides = [row if mask >> at & 1 else opposite(row) for at, row in enumerate(rows)] + walls_of(box)
     brings, bars = pair_rules(table.discs)
     must = never = 0
     for i, disc in enumerate(table.discs):
@@ -96,13 +96,6 @@ def sets_of(rules: Rules) -> Iterator[int]:
     yield from go(0, 0, rules.never, rules.must)
 
 
-def candidates(box: Box, table: Table, regions: Cells, lean: bool) -> Iterator[tuple[int, int]]:
-    """Each candidate as its region's mask and its set of discs."""
-    for mask in sorted(regions):
-        for chosen in sets_of(rules_of(box, table, mask, regions[mask], lean)):
-            yield mask, chosen
-
-
 def samples(corners: list[Point]) -> Iterator[Point]:
     """i c1 + j c2 + k c3 of three different corners, number by number."""
     for (a, b, c), (d, e, f), (g, h, m) in combinations(corners, 3):
@@ -131,8 +124,3 @@ def sample_sets(table: Table, corners: list[Point], most: int) -> set[int]:
         else:
             found.add(chosen)
     return found
-
-
-def region_of(table: Table, p: Point) -> int:
-    """The mask of the lines that a point is Above."""
-    return sum((value(half.row, p) > 0) << at for at, half in enumerate(table.flat))

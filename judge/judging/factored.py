@@ -43,6 +43,11 @@ def factored(terms: list[Term], setting: Setting, level: int = 0) -> list[Tree]:
     return result
 
 
+def factored_tree(terms: list[Term], setting: Setting) -> Tree:
+    """The one tree that the rule makes of all terms."""
+    return Node("union", tuple(factored(terms, setting)))
+
+
 def products(tree: Tree, setting: Setting) -> list[Term]:
     """The terms of a factored union, multiplied out."""
     if not isinstance(tree, Node) or tree.operator != "union":
@@ -67,7 +72,7 @@ def check_factored(text: bytes, setting: Setting, count: int, dice: random.Rando
     terms = sorted(products(tree, setting))
     if len(set(terms)) < len(terms):
         raise Wrong("a term stands twice")
-    if tree != Node("union", tuple(factored(terms, setting))):
+    if tree != factored_tree(terms, setting):
         raise Wrong("the text is not the factored tree of its terms")
     check_meaning(terms, setting.free, setting)
     check_meaning(terms, setting.every, setting)

@@ -9,8 +9,9 @@ from typing import Iterable, NamedTuple
 
 from .csg import read_tree
 from .setting import Setting
-from .texts import Refusal
-from .trees import Leaf, Node, Point, Tree, holds, layout
+from .texts import Refusal, spaced
+from .trees import Leaf, Node, Tree, holds, layout
+from .vectors import Point, is_within
 
 NOTE = re.compile(r" *// (own|out) (undecided|-?[0-9]{1,300}( -?[0-9]{1,300})+)")
 
@@ -49,7 +50,7 @@ def check_bytes(got: bytes, wanted: bytes, what: str) -> None:
         ours, theirs = wanted.split(b"\n"), got.split(b"\n")
         for at, (one, other) in enumerate(zip(ours, theirs), 1):
             if one != other:
-                raise Wrong(f"{what}: line {at} is {other.decode(errors='replace')!r}, not {one.decode()!r}")
+                raise Wrong(f"{what}: line {at} is {other!r}, not {one!r}")
         raise Wrong(f"{what}: {len(theirs) - 1} lines in place of {len(ours) - 1}")
 
 
@@ -57,7 +58,7 @@ def read_notes(text: bytes) -> dict[int, str]:
     """The notes of a printed text by the numbers of the nodes that they stand before."""
     notes: dict[int, str] = {}
     number = 0
-    for line in text.decode(errors="replace").split("\n"):
+    for line in text.decode().split("\n"):
         if NOTE.fullmatch(line):
             if number in notes:
                 raise Wrong(f"two notes before node {number}")
@@ -134,7 +135,7 @@ def check_meaning(terms: list[Term], masks: dict[int, bool], setting: Setting) -
     for mask, odd in masks.items():
         if any(term.holds(mask) for term in terms) != odd:
             at = setting.points.get(mask)
-            where = " ".join(map(str, at)) if at else f"candidate {mask:b}, which has no point"
+            where = spaced(at) if at else f"candidate {mask:b}, which has no point"
             raise Wrong(f"the text is {'out' if odd else 'in'} at {where}, where the boundary is not")
 
 
@@ -185,7 +186,7 @@ def check_notes(terms: list[Term], notes: dict[int, str], setting: Setting) -> i
             check_undecided(terms, at, bit, setting, node)
             continue
         p = tuple(map(int, rest.split(" ")))
-        if " ".join(map(str, p)) != rest:
+        if spaced(p) != rest:
             raise Wrong(f"the numbers of the note before node {node} are not plain")
         fault = point_fault(p, setting) or use_fault(terms, at, bit, p, setting)
         if fault:
@@ -206,7 +207,7 @@ def point_fault(p: Point, setting: Setting) -> str | None:
 
 def use_fault(terms: list[Term], at: int, bit: int, p: Point, setting: Setting) -> str | None:
     """Why a free point does not show that a term, or a literal of it, is needed."""
-    mask = setting.mask(p)
+    mask = setting.table.mask(p)
     if setting.is_odd(p) == bool(bit):
         return "is odd" if bit else "is even"
     if bit:
@@ -231,8 +232,7 @@ def check_points(tree: Tree, setting: Setting, count: int, dice: random.Random) 
     for _ in range(count):
         w = dice.choice((1, 2, 3, 7, 64, 1021, 1 << 20))
         p = tuple(dice.randint(low * w - w, high * w + w) for low, high in zip(least, greatest)) + (w,)
-        outside = any(not low * w <= x <= high * w for x, low, high in zip(p, least, greatest))
-        if outside and (holds(tree, p) or setting.is_odd(p)):
+        if not is_within(setting.box, p, strictly=False) and (holds(tree, p) or setting.is_odd(p)):
             raise Wrong(f"the text or the boundary holds at {p}, outside the box")
         if setting.is_free(p) and holds(tree, p) != setting.is_odd(p):
             raise Wrong(f"text and boundary differ at {p}")

@@ -6,7 +6,8 @@ import random
 from typing import Sequence
 
 from .contours import Element, Place
-from .meshes import Face, Vector
+from .meshes import Face
+from .vectors import Vector
 
 Contour = list[Element]
 TRIPLES = [(3, 4), (4, 3), (-3, 4), (3, -4), (5, 12), (-12, 5), (8, 15), (0, 5), (5, 0), (-5, 0), (0, -5)]

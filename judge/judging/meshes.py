@@ -2,27 +2,14 @@
 
 from __future__ import annotations
 
+from collections import Counter
+from itertools import combinations
 from typing import NoReturn
 
-from .texts import REACH, Refusal, at_word, hash_words, lines_of, number_word
+from .texts import REACH, Refusal, at_word, hash_words, lines_of, number_word, spaced
+from .vectors import Vector, cross, dot, minus
 
-Vector = tuple[int, int, int]
 Face = list[Vector]
-
-
-def minus(a: Vector, b: Vector) -> Vector:
-    """The difference of two places."""
-    return (a[0] - b[0], a[1] - b[1], a[2] - b[2])
-
-
-def cross(a: Vector, b: Vector) -> Vector:
-    """The cross product."""
-    return (a[1] * b[2] - a[2] * b[1], a[2] * b[0] - a[0] * b[2], a[0] * b[1] - a[1] * b[0])
-
-
-def dot(a: Vector, b: Vector) -> int:
-    """The dot product."""
-    return a[0] * b[0] + a[1] * b[1] + a[2] * b[2]
 
 
 class Row:
@@ -122,14 +109,10 @@ def read_mesh(text: bytes) -> list[Face]:
 
 def normal_of(face: Face) -> Vector | None:
     """A normal of the plane through three corners that are not on one line, or None where all are on one."""
-    for second in range(1, len(face)):
-        along = minus(face[second], face[0])
-        if any(along):
-            for other in face[second + 1 :]:
-                normal = cross(along, minus(other, face[0]))
-                if any(normal):
-                    return normal
-            return None
+    for b, c in combinations(face[1:], 2):
+        normal = cross(minus(b, face[0]), minus(c, face[0]))
+        if any(normal):
+            return normal
     return None
 
 
@@ -155,13 +138,8 @@ def check_mesh(faces: list[Face]) -> list[Face]:
     """The same faces, where they are a closed mesh."""
     for at, face in enumerate(faces):
         check_face(face, at)
-    counts: dict[tuple[Vector, Vector], int] = {}
-    for face in faces:
-        for a, b in edges_of(face):
-            ends = (min(a, b), max(a, b))
-            counts[ends] = counts.get(ends, 0) + 1
-    for (a, b), count in counts.items():
+    edges = Counter((min(a, b), max(a, b)) for face in faces for a, b in edges_of(face))
+    for (a, b), count in edges.items():
         if count % 2:
-            ends_text = " ".join(map(str, a + b))
-            raise Refusal(f"OddEdge {ends_text} count {count}")
+            raise Refusal(f"OddEdge {spaced(a + b)} count {count}")
     return faces

@@ -8,38 +8,37 @@ from .formulas import Wrong, check_bytes, check_formula
 from .requests import Given
 from .setting import Setting
 from .tables import Box
+from .texts import ended, spaced
 
 
 def settings_of(given: Given) -> list[Setting]:
     """The contours of each section."""
-    return [Setting((elements,), (), "contour") for elements in given.elements]
+    return [Setting((boundary,)) for boundary in given.boundaries]
 
 
 def box_of_layers(given: Given, settings: list[Setting]) -> Box:
     """The box of all sections with their heights."""
     if not settings:
         return (-1, -1, -1), (1, 1, 1)
-    boxes = [setting.box for setting in settings]
-    low = tuple(min(box[0][k] for box in boxes) for k in (0, 1))
-    high = tuple(max(box[1][k] for box in boxes) for k in (0, 1))
-    sections = given.sections
-    return low + (min(s.low for s in sections) - 1,), high + (max(s.high for s in sections) + 1,)
+    least, greatest = zip(*(setting.box for setting in settings))
+    lows, highs = zip(*((section.low, section.high) for section in given.sections))
+    return (*map(min, zip(*least)), min(lows) - 1), (*map(max, zip(*greatest)), max(highs) + 1)
 
 
 def laid_out(given: Given, settings: list[Setting], trees: list[list[str]]) -> bytes:
     """The layout of layers with the lines of their trees."""
     least, greatest = box_of_layers(given, settings)
-    lines = ["// bcsg 2 prism", "// box " + " ".join(map(str, least + greatest)), "union() {"]
+    lines = ["// bcsg 2 prism", "// box " + spaced(least + greatest), "union() {"]
     for section, tree in zip(given.sections, trees):
         lines.append(f"  translate([0,0,{section.low}]) linear_extrude(height={section.high - section.low})")
         lines += ["    " + line for line in tree]
-    return "".join(line + "\n" for line in [*lines, "}"]).encode()
+    return ended([*lines, "}"])
 
 
 def trees_in(text: bytes) -> list[list[str]]:
     """The lines of each layer's tree, without the blanks before them."""
     trees: list[list[str]] = []
-    for line in text.decode(errors="replace").split("\n")[3:]:
+    for line in text.decode().split("\n")[3:]:
         if line.startswith("  translate("):
             trees.append([])
         elif line.startswith("    ") and trees:
@@ -54,8 +53,7 @@ def check_prism(text: bytes, given: Given, count: int, dice: random.Random) -> N
         raise Wrong(f"{len(trees)} layers for {len(settings)} sections")
     check_bytes(text, laid_out(given, settings, trees), "layout of layers")
     for at, (setting, tree) in enumerate(zip(settings, trees)):
-        plain = "".join(line + "\n" for line in [*setting.head(), *tree]).encode()
         try:
-            check_formula(plain, setting, False, count, dice)
+            check_formula(ended([*setting.head(), *tree]), setting, False, count, dice)
         except Wrong as wrong:
             raise Wrong(f"layer {at}: {wrong}") from None

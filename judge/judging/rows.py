@@ -2,6 +2,7 @@
 
 from __future__ import annotations
 
+import re
 from pathlib import Path
 from typing import Iterator, NamedTuple
 
@@ -9,50 +10,89 @@ from .cases import Case
 from .verdicts import Run
 
 FOLDER = Path(__file__).resolve().parent.parent / "cases"
+STATUSES = {"usage:": 3, "refused:": 2, "out": 6}
 
 
 class Row(NamedTuple):
-    """A case, how it has to end, and what is written, where that is forced."""
+    """A case with how it has to end. What it has to write is given `exactly`, or `without notes`, or it is `free`."""
 
     name: str
     case: Case
     run: Run
-    is_forced: bool
+    out: str = "exactly"
+
+    def fault(self, run: Run) -> str | None:
+        """What a run has that this row has not, or None."""
+        if (run.status, run.err) != (self.run.status, self.run.err):
+            return f"exit {run.status} with {run.err!r}, and the row has exit {self.run.status} with {self.run.err!r}"
+        given = re.sub(rb" *// (own|out) .*\n", b"", run.out) if self.out == "without notes" else run.out
+        return None if self.out == "free" or given == self.run.out else "the output is not that of the row"
+
+
+def told(line: str) -> Run:
+    """The run that ends with a line: a refusal, an answer, or `free`, a text of which nothing is said here."""
+    status = STATUSES.get(line.split()[0], 0) if " " in line else 0
+    answer = b"" if line == "free" else line.encode() + b"\n"
+    return Run(status, b"", answer) if status else Run(0, answer, b"")
+
+
+def table(name: str) -> Iterator[tuple[str, list[str]]]:
+    """The rows of a table, each with its place and its fields; the texts that are named in it are put in."""
+    names: dict[str, str] = {}
+    for number, line in enumerate((FOLDER / name).read_text().split("\n"), 1):
+        if line.startswith("#"):
+            continue
+        line = re.sub(r"<([a-z][\w-]*)>", lambda found: names[found[1]], line)
+        if line.startswith("= "):
+            key, _, names[key] = line[2:].partition(" | ")
+        elif line:
+            yield f"{name} {number}", line.split(" | ")
 
 
 def unfolded(text: str) -> bytes:
-    """The bytes of an input in a table: ` / ` stands for LF, and \\n and \\r for themselves."""
-    return text.replace(" / ", "\n").encode().decode("unicode_escape").encode("latin-1")
+    """The bytes of an input in a table: ` / ` is LF, `<..*3>` stands three times, with the number of the time for `@`."""
+
+    def again(found: re.Match[str]) -> str:
+        number = re.compile(r"@([+-]\d+)?")
+        return "".join(number.sub(lambda sign: str(k + int(sign[1] or 0)), found[1]) for k in range(int(found[2])))
+
+    plain = re.sub(r"<([^<>]*)\*(\d+)>", again, re.sub(r" /( |$)", "\n", text))
+    return plain.encode().decode("unicode_escape").encode("latin-1")
 
 
 def lines() -> Iterator[Row]:
-    """The rows of the table: words, input and the one line of the answer, parted by ` | `."""
-    for number, line in enumerate((FOLDER / "lines").read_text().split("\n"), 1):
-        if line and not line.startswith("#"):
-            words, text, told = line.split(" | ")
-            status = {"usage:": 3, "refused:": 2}.get(told.split()[0], 0)
-            answer = told.encode() + b"\n"
-            run = Run(status, b"" if status else answer, answer if status else b"")
-            yield Row(f"line {number}", Case(words.split(), unfolded(text)), run, True)
+    """The rows of the table: command lines parted by `;`, the input, and the one line of the answer."""
+    for name, (commands, text, line) in table("lines"):
+        for words in commands.split(";"):
+            yield Row(f"{name} {words.split()[0]}", Case(words.split(), unfolded(text)), told(line), "free" if line == "free" else "exactly")
 
 
-def texts() -> Iterator[Row]:
-    """The rows of single files: a line of words, then the input, `>>>>` and the output, or `>>>> free`."""
+def cuts() -> Iterator[Row]:
+    """A text cut behind each of its tokens: the next one is missing at the end."""
+    text = (FOLDER / "tetrahedron.case").read_text().partition(">>>>")[2].partition("\n")[2]
+    ends = [found.end() for found in re.finditer(r"//.*|(\w+|-\d+|[^\w\s])", text) if found[1]]
+    for nth, end in enumerate(ends[:-1], 2):
+        place = f"line {text.count(chr(10), 0, end) + 2} token {nth}"
+        yield Row(f"cut {nth}", Case("ask 0 0 0 1".split(), text[:end].encode()), told(f"refused: BadShape {place}"))
+
+
+def files() -> Iterator[Row]:
+    """The rows of single files: a line of words, then the input, then `>>>>` with how the output is meant, and it."""
     for path in sorted(FOLDER.glob("*.case")):
         words, _, rest = path.read_text().partition("\n")
         given, _, out = rest.partition(">>>>")
-        mark, _, out = out.partition("\n")
-        yield Row(path.name, Case(words.split(), given.encode()), Run(0, out.encode(), b""), "free" not in mark)
+        how, _, out = out.partition("\n")
+        yield Row(path.stem, Case(words.split(), given.encode()), Run(0, out.encode(), b""), how.strip() or "exactly")
 
 
 def examples() -> Iterator[Row]:
     """The inputs of the project's own examples, converted and factored."""
+    commands = {".off": ("convert off", "factor off"), ".ngc": ("convert contour", "factor contour"), ".layers": ("prism",)}
     for path in sorted((FOLDER.parent.parent / "examples").iterdir()):
-        kind = {".off": "off", ".ngc": "contour", ".layers": "layers"}.get(path.suffix)
-        for words in [["prism"]] if kind == "layers" else [["convert", kind], ["factor", kind]] if kind else []:
-            yield Row(path.name, Case(words, path.read_bytes()), Run(0, b"", b""), False)
+        for words in commands.get(path.suffix, ()):
+            yield Row(f"{path.name} {words}", Case(words.split(), path.read_bytes()), Run(0, b"", b""), "free")
 
 
 def all_rows() -> list[Row]:
     """All worked rows."""
-    return [*lines(), *texts(), *examples()]
+    return [*lines(), *cuts(), *files(), *examples()]

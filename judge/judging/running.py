@@ -12,7 +12,7 @@ from typing import IO, Sequence
 
 from .verdicts import Run
 
-MOST_BYTES = 1 << 28
+MOST_BYTES = 1 << 26
 
 
 class NoProgram(Exception):
@@ -83,6 +83,8 @@ def run_program(program: str, words: Sequence[str], data: bytes, seconds: float)
             assert process.stdout and process.stderr
             process.stdout.close()
             process.stderr.close()
+        # The program shares the offset of the file that it was given.
+        read = os.lseek(given.fileno(), 0, os.SEEK_CUR)
     if process.returncode < 0:
         raise Failed(f"crashed: ended by {signal.Signals(-process.returncode).name}, with {err[:200]!r}")
-    return Run(process.returncode, out, err)
+    return Run(process.returncode, out, err, read)

@@ -8,8 +8,8 @@ from itertools import combinations
 from math import isqrt
 from typing import Iterator, NamedTuple
 
-from .tables import Box, Table, value, walls_of
-from .trees import Numbers, Point
+from .tables import Box, Table, walls_of
+from .vectors import Numbers, Point
 
 
 class Root(NamedTuple):
@@ -138,16 +138,5 @@ def free_masks(box: Box, table: Table) -> dict[int, Point]:
             for y in between(heights(rows, table.discs, x)):
                 if low < y < high:
                     point = (n * y.denominator, y.numerator * w, w * y.denominator)
-                    found.setdefault(mask_at(table, point), point)
+                    found.setdefault(table.mask(point), point)
     return found
-
-
-def mask_at(table: Table, p: Point) -> int:
-    """The mask of a point that is on no half-space; bits of what it is Above."""
-    mask = 0
-    for at, half in enumerate(table.flat):
-        mask |= (value(half.row, p) > 0) << at
-    x, y, w = p
-    for at, (cx, cy, r2) in enumerate(table.discs, len(table.flat)):
-        mask |= ((x - cx * w) ** 2 + (y - cy * w) ** 2 < r2 * w * w) << at
-    return mask

@@ -1,18 +1,27 @@
-"""The half-spaces and the box of a boundary: distinct canonical lines, discs and planes, and their limits."""
+"""Boundaries, their half-spaces and their box: distinct canonical lines, discs and planes, and their limits."""
 
 from __future__ import annotations
 
-from math import gcd, isqrt
-from typing import NamedTuple
+from math import isqrt
+from typing import NamedTuple, Sequence
 
 from .contours import Element, Place
-from .meshes import Face, dot, normal_of
+from .meshes import Face, normal_of
 from .texts import Refusal
-from .trees import Leaf, Numbers, Point, Tree, leaves_of
+from .trees import Leaf, Tree, leaves_of
+from .vectors import Numbers, Point, disc_value, dot, leading, opposite, units
 
 MOST_FLAT = 40
 MOST_DISCS = 10
 Box = tuple[Numbers, Numbers]
+
+
+class Boundary(NamedTuple):
+    """Closed contours by their elements, or a closed mesh by its faces."""
+
+    kind: str
+    elements: list[Element]
+    faces: list[Face]
 
 
 class Half(NamedTuple):
@@ -38,92 +47,85 @@ class Table(NamedTuple):
         """The leaf of each half-space."""
         return [half.leaf() for half in self.flat] + [Leaf("disc", disc) for disc in self.discs]
 
+    def touches(self, p: Point) -> bool:
+        """Whether a point is on a line, circle or plane."""
+        return not all(dot(half.row, p) for half in self.flat) or not all(disc_value(disc, p) for disc in self.discs)
 
-def value(row: Numbers, p: Point) -> int:
-    """The product of the numbers of a half-space with those of a point."""
-    return sum(map(int.__mul__, row, p))
+    def mask(self, p: Point) -> int:
+        """The half-spaces that a point which is on none of them is Above, as bits."""
+        mask = 0
+        for at, half in enumerate(self.flat):
+            mask |= (dot(half.row, p) > 0) << at
+        for at, disc in enumerate(self.discs, len(self.flat)):
+            mask |= (disc_value(disc, p) < 0) << at
+        return mask
 
 
-def disc_value(disc: Numbers, p: Point) -> int:
-    """Below 0 strictly inside a disc, 0 on its circle."""
-    x, y, w = p
-    return (x - disc[0] * w) ** 2 + (y - disc[1] * w) ** 2 - disc[2] * w * w
-
-
-def leading(numbers: Numbers) -> Numbers:
-    """The primitive vector whose first component that is not 0 is above 0."""
-    common = gcd(*numbers)
-    first = next(x for x in numbers if x)
-    return tuple(x // (common if first > 0 else -common) for x in numbers)
+def row_at(normal: Numbers, place: Numbers) -> Numbers:
+    """The row of a line or plane through a place across a normal."""
+    return (*normal, -dot(normal, place))
 
 
 def line_through(a: Place, b: Place) -> Numbers:
     """The row of the canonical line through two places: its normal is its direction turned left."""
-    u = leading((b[0] - a[0], b[1] - a[1]))
-    n = (-u[1], u[0])
-    return (*n, -(n[0] * a[0] + n[1] * a[1]))
+    x, y = leading((b[0] - a[0], b[1] - a[1]))
+    return row_at((-y, x), a)
 
 
-def plane_at(origin: tuple[int, int, int], normal: tuple[int, int, int]) -> Numbers:
-    """The row of the canonical plane through a place across a normal."""
-    n = leading(normal)
-    return (*n, -sum(a * b for a, b in zip(n, origin)))
+def plane_of(face: Face) -> Numbers:
+    """The row of the canonical plane of a face."""
+    normal = normal_of(face)
+    assert normal is not None
+    return row_at(leading(normal), face[0])
 
 
-def table_of(elements: list[Element], faces: list[Face]) -> Table:
-    """The half-spaces of contours or of a mesh, each where it stands first."""
+def plane_of_slab(slab: Leaf) -> Numbers:
+    """The row of the canonical plane of a slab."""
+    return row_at(leading(slab.normal), slab.origin)
+
+
+def table_of(boundary: Boundary) -> Table:
+    """The half-spaces of a boundary, each where it stands first."""
     flat: dict[Numbers, Numbers] = {}
-    discs: dict[Numbers, None] = {}
-    for element in elements:
+    for element in boundary.elements:
         if element.a != element.b:
             flat.setdefault(line_through(element.a, element.b), element.a)
-        if element.centre is not None:
-            discs.setdefault((*element.centre, element.r2))
-    for face in faces:
-        normal = normal_of(face)
-        assert normal is not None and dot(normal, normal)
-        flat.setdefault(plane_at(face[0], normal), face[0])
+    for face in boundary.faces:
+        flat.setdefault(plane_of(face), face[0])
+    discs = dict.fromkeys(element.disc for element in boundary.elements if element.disc)
     return Table([Half(row, origin) for row, origin in flat.items()], list(discs))
 
 
-def check_limits(elements: list[Element], faces: list[Face]) -> None:
-    """The first limit that a boundary passes."""
-    table = table_of(elements, faces)
+def check_limits(boundary: Boundary) -> Table:
+    """The half-spaces of a boundary, or the first limit that they pass."""
+    table = table_of(boundary)
     if len(table.flat) > MOST_FLAT:
-        raise Refusal(f"{'TooManyPlanes' if faces else 'TooManyLines'} {len(table.flat)}")
+        raise Refusal(f"{'TooManyPlanes' if boundary.faces else 'TooManyLines'} {len(table.flat)}")
     if len(table.discs) > MOST_DISCS:
         raise Refusal(f"TooManyDiscs {len(table.discs)}")
+    return table
 
 
-def tree_planes(tree: Tree) -> list[Numbers]:
-    """The canonical planes of the slabs of a tree."""
-    slabs = [leaf.numbers for leaf in leaves_of(tree) if leaf.kind == "slab"]
-    return [plane_at((o[0], o[1], o[2]), (o[3], o[4], o[5])) for o in slabs]
-
-
-def audit_limit(faces: list[Face], tree: Tree) -> list[Numbers]:
+def audit_planes(boundary: Boundary, tree: Tree) -> list[Numbers]:
     """The distinct planes of a mesh and a tree, where they are no more than a conversion takes."""
-    rows = list(dict.fromkeys([half.row for half in table_of([], faces).flat] + tree_planes(tree)))
+    rows = [half.row for half in table_of(boundary).flat]
+    rows += [plane_of_slab(leaf) for leaf in leaves_of(tree) if leaf.kind == "slab"]
+    rows = list(dict.fromkeys(rows))
     if len(rows) > MOST_FLAT:
         raise Refusal(f"TooManyPlanes {len(rows)}")
     return rows
 
 
-def reach(r2: int) -> int:
-    """The least number whose square is at least r2."""
-    return isqrt(r2 - 1) + 1
-
-
-def box_of(elements: list[Element], faces: list[Face], size: int) -> Box:
+def box_of(boundary: Boundary) -> Box:
     """The box: a margin of 1 round all coordinates, circles taken whole; from -1 to 1 where there are none."""
-    places: list[Numbers] = [corner for face in faces for corner in face]
-    for element in elements:
+    places: list[Numbers] = [corner for face in boundary.faces for corner in face]
+    for element in boundary.elements:
         places += [element.a, element.b]
-        if element.centre is not None:
-            (x, y), r = element.centre, reach(element.r2)
-            places += [(x - r, y - r), (x + r, y + r)]
-    places = places or [(0,) * size]
-    axes = list(zip(*places))
+        if element.disc:
+            x, y, square = element.disc
+            radius = isqrt(square - 1) + 1
+            places += [(x - radius, y - radius), (x + radius, y + radius)]
+    axes = list(zip(*places or [(0,) * (2 if boundary.kind == "contour" else 3)]))
     return tuple(min(axis) - 1 for axis in axes), tuple(max(axis) + 1 for axis in axes)
 
 
@@ -137,7 +139,12 @@ def box_leaf(box: Box) -> Leaf:
 def walls_of(box: Box) -> list[Numbers]:
     """The rows of the sides of a box, Above towards its inside."""
     rows: list[Numbers] = []
-    for axis, (low, high) in enumerate(zip(*box)):
-        unit = tuple(int(k == axis) for k in range(len(box[0])))
-        rows += [unit + (-low,), tuple(-x for x in unit) + (high,)]
+    for unit, low, high in zip(units(len(box[0])), *box):
+        rows += [unit + (-low,), opposite(unit) + (high,)]
     return rows
+
+
+def joined(boundaries: Sequence[Boundary]) -> Boundary:
+    """One boundary of the elements and faces of all."""
+    elements = [element for part in boundaries for element in part.elements]
+    return Boundary(boundaries[0].kind, elements, [face for part in boundaries for face in part.faces])

@@ -14,11 +14,6 @@ JOINED_BYTES = 2_097_160
 REACH = 1023
 
 
-def farthest(numbers: Iterable[int]) -> int:
-    """The greatest size of some numbers."""
-    return max(abs(x) for x in numbers)
-
-
 class Stop(Exception):
     """A run that ends without an answer: its exit status and its line on standard error."""
 
@@ -47,6 +42,16 @@ def lines_of(text: bytes) -> list[bytes]:
     if pieces[-1] == b"":
         pieces.pop()
     return pieces
+
+
+def spaced(numbers: Iterable[int]) -> str:
+    """Numbers with a blank between each two."""
+    return " ".join(map(str, numbers))
+
+
+def ended(lines: Iterable[str]) -> bytes:
+    """The text of some lines, each ended by LF."""
+    return "".join(line + "\n" for line in lines).encode()
 
 
 def whole_value(number: bytes) -> int | None:

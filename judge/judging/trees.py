@@ -5,17 +5,19 @@ from __future__ import annotations
 from math import gcd
 from typing import Callable, Iterator, NamedTuple, Union
 
-from .texts import farthest
+from .texts import REACH, ended
+from .vectors import Numbers, Point, determinant, disc_value, farthest, opposite, units
 
-Numbers = tuple[int, ...]
-Point = tuple[int, ...]
-HALF = 8192
-WHOLE = 16384
-FLAT = ("disc", "tile", "strip")
+HALF, WHOLE = 8192, 16384
+BOXES = ("tile", "block")
+LONG_BOX: dict[str, tuple[Numbers, Numbers]] = {
+    "strip": ((-HALF, 0, 0), (WHOLE, HALF)),
+    "slab": ((-HALF, -HALF, 0), (WHOLE, WHOLE, HALF)),
+}
 
 
 class Leaf(NamedTuple):
-    """A disc (x, y, r2), tile (x, y, a, b), block (x, y, z, a, b, c), strip (o, u) or slab (o, n)."""
+    """A disc (x, y, squared radius), tile (x, y, a, b), block (x, y, z, a, b, c), strip (o, u) or slab (o, n)."""
 
     kind: str
     numbers: Numbers
@@ -23,7 +25,31 @@ class Leaf(NamedTuple):
     @property
     def is_flat(self) -> bool:
         """Whether the leaf is one of the plane."""
-        return self.kind in FLAT
+        return self.kind in ("disc", "tile", "strip")
+
+    @property
+    def origin(self) -> Numbers:
+        """The centre, the least corner, or the origin."""
+        return self.numbers[: 2 if self.is_flat else 3]
+
+    @property
+    def rest(self) -> Numbers:
+        """The squared radius, the sides, the direction or the normal."""
+        return self.numbers[2 if self.is_flat else 3 :]
+
+    @property
+    def normal(self) -> Numbers:
+        """The normal of a strip or slab."""
+        return (-self.rest[1], self.rest[0]) if self.is_flat else self.rest
+
+    def is_lawful(self) -> bool:
+        """Whether the numbers are within the ranges of the leaf's row."""
+        if self.kind in BOXES:
+            return farthest(self.origin) <= 4096 and 1 <= min(self.rest) and max(self.rest) <= 8191
+        if self.kind == "disc":
+            return farthest(self.origin) <= REACH and 1 <= self.rest[0] <= 8_372_232
+        most = 2046 if self.is_flat else 8_388_607
+        return farthest(self.origin) <= REACH and farthest(self.rest) <= most and gcd(*self.rest) == 1
 
 
 class Node(NamedTuple):
@@ -36,115 +62,61 @@ class Node(NamedTuple):
 Tree = Union[Leaf, Node]
 
 
-def frame_of(n: Numbers) -> tuple[Numbers, Numbers]:
-    """The directions u and v that go with the normal of a slab."""
+def frame_of(leaf: Leaf) -> list[Numbers]:
+    """The directions of a strip or slab, its normal last."""
+    n = leaf.normal
+    if leaf.is_flat:
+        return [leaf.rest, n]
     a, b, c = n
     if a:
-        return (b, -a, 0), (c, 0, -a)
-    if b:
-        return (1, 0, 0), (0, c, -b)
-    return (1, 0, 0), (0, 1, 0)
-
-
-def normal_of_leaf(leaf: Leaf) -> Numbers:
-    """The normal of a strip or slab."""
-    if leaf.kind == "strip":
-        return (-leaf.numbers[3], leaf.numbers[2])
-    return leaf.numbers[3:]
-
-
-def is_lawful(leaf: Leaf) -> bool:
-    """Whether the numbers are within the ranges of the leaf's row."""
-    x = leaf.numbers
-    if leaf.kind == "disc":
-        return max(abs(x[0]), abs(x[1])) <= 1023 and 1 <= x[2] <= 8_372_232
-    half = len(x) // 2
-    first, rest = x[:half], x[half:]
-    if leaf.kind in ("tile", "block"):
-        return farthest(first) <= 4096 and 1 <= min(rest) and max(rest) <= 8191
-    most = 2046 if leaf.kind == "strip" else 8_388_607
-    return farthest(first) <= 1023 and farthest(rest) <= most and gcd(*rest) == 1
-
-
-def is_axis(leaf: Leaf) -> bool:
-    """Whether a strip or slab goes along the axes."""
-    return leaf.kind in ("strip", "slab") and sum(n * n for n in normal_of_leaf(leaf)) == 1
+        return [(b, -a, 0), (c, 0, -a), n]
+    return [(1, 0, 0), (0, c, -b) if b else (0, 1, 0), n]
 
 
 def short_form(leaf: Leaf) -> Numbers:
     """The least corner and the sides of the box that an axis leaf is."""
-    normal = normal_of_leaf(leaf)
-    least = tuple(o if n == 1 else o - HALF for o, n in zip(leaf.numbers, normal))
-    return least + tuple(HALF if n else WHOLE for n in normal)
+    least = tuple(o if n == 1 else o - HALF for o, n in zip(leaf.origin, leaf.normal))
+    return least + tuple(HALF if n else WHOLE for n in leaf.normal)
 
 
 def leaf_of_box(numbers: Numbers) -> Leaf | None:
     """The tile, block or axis leaf that a least corner and sides say."""
-    flat = len(numbers) == 4
-    plain = Leaf("tile" if flat else "block", numbers)
-    if is_lawful(plain):
-        return plain
     size = len(numbers) // 2
-    for axis in range(size):
-        for sign in (1, -1):
-            normal = tuple(sign if k == axis else 0 for k in range(size))
-            least = numbers[:size]
-            o = tuple(x if n == 1 else x + HALF for x, n in zip(least, normal))
-            rest = (normal[1], -normal[0]) if flat else normal
-            leaf = Leaf("strip" if flat else "slab", o + rest)
-            if is_lawful(leaf) and short_form(leaf) == numbers:
+    plain = Leaf(BOXES[size - 2], numbers)
+    if plain.is_lawful():
+        return plain
+    for unit in units(size):
+        for n in (unit, opposite(unit)):
+            origin = tuple(x if k == 1 else x + HALF for x, k in zip(numbers, n))
+            leaf = Leaf("strip", origin + (n[1], -n[0])) if size == 2 else Leaf("slab", origin + n)
+            if leaf.is_lawful() and short_form(leaf) == numbers:
                 return leaf
     return None
 
 
+def amounts(leaf: Leaf) -> list[tuple[Numbers, int, int]]:
+    """The directions that lead from the origin to the points of a leaf, each with its least and greatest amount."""
+    if leaf.kind in BOXES:
+        return [(unit, 0, side) for unit, side in zip(units(len(leaf.rest)), leaf.rest)]
+    *along, normal = frame_of(leaf)
+    return [*((way, -HALF, HALF) for way in along), (normal, 0, HALF)]
+
+
 def depths(leaf: Leaf, p: Point) -> list[int]:
     """Numbers that are all at least 0 in the leaf's set, and of which one is 0 there on its boundary."""
-    x, w = leaf.numbers, p[-1]
     if leaf.kind == "disc":
-        return [x[2] * w * w - (p[0] - x[0] * w) ** 2 - (p[1] - x[1] * w) ** 2]
-    size = len(x) // 2
-    if leaf.kind in ("tile", "block"):
-        return box_depths(x[:size], x[size:], p)
-    d = [p[k] - x[k] * w for k in range(size)]
-    normal = normal_of_leaf(leaf)
-    square = sum(n * n for n in normal)
-    along = sum(n * k for n, k in zip(normal, d))
-    result = [along, HALF * square * w - along]
-    for times, over in slides(leaf, d, normal, square, along):
-        edge = HALF * abs(over) * w
-        result += [edge - times, edge + times]
+        return [-disc_value(leaf.numbers, p)]
+    ranges = amounts(leaf)
+    ways = [way for way, _, _ in ranges]
+    whole = determinant(ways)
+    sign, size = (1 if whole > 0 else -1), abs(whole) * p[-1]
+    away = tuple(x - o * p[-1] for x, o in zip(p, leaf.origin))
+    result: list[int] = []
+    for at, (_, low, high) in enumerate(ranges):
+        # Cramer's rule: the amount of this direction, times the determinant of all and the point's denominator.
+        amount = sign * determinant([*ways[:at], away, *ways[at + 1 :]])
+        result += [amount - low * size, high * size - amount]
     return result
-
-
-def box_depths(least: Numbers, sides: Numbers, p: Point) -> list[int]:
-    """The same for a box."""
-    w, result = p[-1], []
-    for k, (low, side) in enumerate(zip(least, sides)):
-        result += [p[k] - low * w, (low + side) * w - p[k]]
-    return result
-
-
-def slides(leaf: Leaf, d: list[int], n: Numbers, square: int, along: int) -> Iterator[tuple[int, int]]:
-    """The amounts s (and t) of u (and v), each as a number over another times the point's denominator."""
-    if leaf.kind == "strip":
-        u = leaf.numbers[2:]
-        yield d[0] * u[0] + d[1] * u[1], square
-        return
-    rest = [d[k] * square - along * n[k] for k in range(3)]
-    if n[0]:
-        yield rest[1], n[0] * square
-        yield rest[2], n[0] * square
-    elif n[1]:
-        yield rest[0], square
-        yield rest[2], n[1] * square
-    else:
-        yield rest[0], square
-        yield rest[1], square
-
-
-def in_leaf(leaf: Leaf, p: Point) -> bool:
-    """Whether a point is in the leaf's closed set."""
-    return min(depths(leaf, p)) >= 0
 
 
 def leaves_of(tree: Tree) -> Iterator[Leaf]:
@@ -161,18 +133,6 @@ def is_flat(tree: Tree) -> bool:
     return any(leaf.is_flat for leaf in leaves_of(tree))
 
 
-def holds(tree: Tree, p: Point) -> bool:
-    """What a tree says of a point."""
-    known: dict[Leaf, bool] = {}
-
-    def leaf_holds(leaf: Leaf) -> bool:
-        if leaf not in known:
-            known[leaf] = in_leaf(leaf, p)
-        return known[leaf]
-
-    return holds_where(tree, leaf_holds)
-
-
 def holds_where(tree: Tree, leaf_holds: Callable[[Leaf], bool]) -> bool:
     """What a tree says, where this is what its leaves say."""
     if isinstance(tree, Leaf):
@@ -185,6 +145,18 @@ def holds_where(tree: Tree, leaf_holds: Callable[[Leaf], bool]) -> bool:
     return next(kids) and not any(kids)
 
 
+def holds(tree: Tree, p: Point) -> bool:
+    """What a tree says of a point."""
+    known: dict[Leaf, bool] = {}
+
+    def is_in(leaf: Leaf) -> bool:
+        if leaf not in known:
+            known[leaf] = min(depths(leaf, p)) >= 0
+        return known[leaf]
+
+    return holds_where(tree, is_in)
+
+
 def is_edge(tree: Tree, p: Point) -> bool:
     """Whether a point is on the boundary of a leaf of the tree."""
     return any(min(depths(leaf, p)) == 0 for leaf in set(leaves_of(tree)))
@@ -195,37 +167,30 @@ def listed(numbers: Numbers) -> str:
     return "[" + ",".join(map(str, numbers)) + "]"
 
 
-def box_words(numbers: Numbers) -> str:
+def box_words(least: Numbers, sides: Numbers) -> str:
     """A box as a leaf says it."""
-    size = len(numbers) // 2
-    least, sides = numbers[:size], numbers[size:]
-    if size == 2:
-        return f"translate({listed(least + (0,))}) square({listed(sides)})"
-    return f"translate({listed(least)}) cube({listed(sides)})"
+    shape = "square" if len(sides) == 2 else "cube"
+    return f"translate({listed((*least, 0)[:3])}) {shape}({listed(sides)})"
 
 
 def leaf_words(leaf: Leaf, long: bool = False) -> str:
     """A leaf as it is printed, or in its long spelling."""
-    x = leaf.numbers
     if leaf.kind == "disc":
-        return f"translate({listed(x[:2] + (0,))}) circle(r=sqrt({x[2]}))"
-    if leaf.kind in ("tile", "block"):
-        return box_words(x)
-    if is_axis(leaf) and not long:
-        return box_words(short_form(leaf))
-    rows = [listed(row) for row in matrix_of(leaf)]
-    box = (-HALF, 0, WHOLE, HALF) if leaf.kind == "strip" else (-HALF, -HALF, 0, WHOLE, WHOLE, HALF)
-    return f"multmatrix([{','.join(rows)}]) {box_words(box)}"
+        return f"translate({listed((*leaf.origin, 0))}) circle(r=sqrt({leaf.rest[0]}))"
+    if leaf.kind in BOXES:
+        return box_words(leaf.origin, leaf.rest)
+    if sum(n * n for n in leaf.normal) == 1 and not long:
+        numbers = short_form(leaf)
+        return box_words(numbers[: len(numbers) // 2], numbers[len(numbers) // 2 :])
+    return f"multmatrix([{','.join(map(listed, matrix_of(leaf)))}]) {box_words(*LONG_BOX[leaf.kind])}"
 
 
 def matrix_of(leaf: Leaf) -> list[Numbers]:
-    """The rows of the matrix of a strip or slab."""
-    x = leaf.numbers
-    if leaf.kind == "strip":
-        return [(x[2], -x[3], 0, x[0]), (x[3], x[2], 0, x[1]), (0, 0, 1, 0), (0, 0, 0, 1)]
-    n = x[3:]
-    u, v = frame_of(n)
-    return [*((u[k], v[k], n[k], x[k]) for k in range(3)), (0, 0, 0, 1)]
+    """The rows of the matrix of a strip or slab: its columns are the directions and the origin."""
+    columns = [*frame_of(leaf), leaf.origin]
+    if leaf.is_flat:
+        columns = [*(column + (0,) for column in columns[:2]), (0, 0, 1), leaf.origin + (0,)]
+    return [*zip(*columns), (0, 0, 0, 1)]
 
 
 def node_lines(tree: Tree, depth: int = 0) -> Iterator[tuple[str, bool]]:
@@ -250,7 +215,7 @@ def layout(head: list[str], tree: Tree, notes: dict[int, str] | None = None) -> 
                 result.append(line[: len(line) - len(line.lstrip())] + "// " + notes[number])
             number += 1
         result.append(line)
-    return "".join(line + "\n" for line in result).encode()
+    return ended(result)
 
 
 def upgrade(tree: Tree) -> bytes:

@@ -1,8 +1,8 @@
-"""The texts that `trial` converts, and its summary."""
+"""The texts that `trial` converts."""
 
 from __future__ import annotations
 
-from .setting import Setting
+from .texts import ended, spaced
 
 
 def stair(n: int) -> bytes:
@@ -11,9 +11,9 @@ def stair(n: int) -> bytes:
     outline = [(0, 0)] + [place for i in range(1, n + 1) for place in ((i - 1, i), (i, i))] + [(n, 0)]
     lines = [f"OFF {2 * m} {m + 2} 0"]
     lines += [f"{x} {y} {z}" for y in (0, 10) for x, z in outline]
-    lines += [" ".join(map(str, [m, *range(first, first + m)])) for first in (0, m)]
+    lines += [spaced([m, *range(first, first + m)]) for first in (0, m)]
     lines += [f"4 {k} {(k + 1) % m} {m + (k + 1) % m} {m + k}" for k in range(m)]
-    return "".join(line + "\n" for line in lines).encode()
+    return ended(lines)
 
 
 def plate(n: int) -> bytes:
@@ -21,14 +21,8 @@ def plate(n: int) -> bytes:
     lines = ["G00 X0 Y0", f"G01 X{20 * n} Y0", f"G01 X{20 * n} Y20", "G01 X0 Y20", "G01 X0 Y0"]
     for i in range(n):
         lines += [f"G00 X{20 * i + 15} Y10", f"G03 X{20 * i + 15} Y10 I-5 J0"]
-    return "".join(line + "\n" for line in [*lines, "M30"]).encode()
+    return ended([*lines, "M30"])
 
 
-def summary(kind: str, n: int, setting: Setting, terms: int, literals: int, undecided: int) -> bytes:
-    """The lines behind the text of a trial."""
-    flat, discs = setting.table
-    lines = [f"trial {kind} {n}"]
-    lines += [f"lines {len(flat)}", f"discs {len(discs)}"] if setting.is_flat else [f"planes {len(flat)}"]
-    lines += [f"{'candidates' if setting.is_flat else 'cells'} {len(setting.every)}"]
-    lines += [f"inside {sum(setting.every.values())}", f"terms {terms}", f"literals {literals}"]
-    return "".join(line + "\n" for line in [*lines, f"undecided {undecided}"]).encode()
+MOST_STEPS = {"off": 18, "contour": 10}
+TEXTS = {"off": stair, "contour": plate}

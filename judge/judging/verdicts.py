@@ -3,86 +3,82 @@
 from __future__ import annotations
 
 import random
+import re
 from typing import NamedTuple, Sequence
 
-from .audits import check_audit
+from .audits import Audit, check_audit
 from .factored import check_factored
-from .formulas import Wrong, check_bytes, check_formula
-from .parity import MeshParity, is_edge_flat, is_edge_solid, is_odd_flat
+from .formulas import Term, Wrong, check_bytes, check_formula
 from .prisms import check_prism
-from .requests import Given, Request, read_boundary, read_given
+from .requests import Given, Request, bytes_taken, read_given
 from .setting import Setting
 from .texts import Stop
-from .trees import Tree, holds, is_edge, is_flat, upgrade
-from .trials import plate, stair, summary
+from .trees import holds, is_edge, is_flat, upgrade
+
+FORMULAS = ("convert", "combine", "trial")
 
 
 class Run(NamedTuple):
-    """How a run ended and what it wrote."""
+    """How a run ended, what it wrote, and how many bytes of its input it read, where this is known."""
 
     status: int
     out: bytes
     err: bytes
+    read: int | None = None
 
 
-def side_answer(given: Given) -> bytes:
-    """What `side` writes."""
-    x, y, z, w = given.request.point
-    if given.request.kind == "contour":
-        edge, odd = is_edge_flat(given.elements[0], (x, y, w)), is_odd_flat(given.elements[0], (x, y, w))
-    else:
-        edge, odd = is_edge_solid(given.faces[0], (x, y, z, w)), MeshParity(given.faces[0]).is_odd((x, y, z, w))
-    return b"edge\n" if edge else b"odd\n" if odd else b"even\n"
+def setting_of(given: Given) -> Setting:
+    """The boundary, or the two, of a request."""
+    return Setting(given.boundaries, given.request.operation)
 
 
-def ask_answer(tree: Tree, request: Request) -> bytes:
-    """What `ask` writes."""
-    x, y, z, w = request.point
-    p = (x, y, w) if is_flat(tree) else (x, y, z, w)
-    return b"edge\n" if is_edge(tree, p) else b"in\n" if holds(tree, p) else b"out\n"
+def forced(given: Given) -> bytes:
+    """What `side`, `ask` and `upgrade` write."""
+    x, y, z, w = given.request.point or (0, 0, 0, 1)
+    if given.tree is None:
+        setting = setting_of(given)
+        p = (x, y, w) if setting.is_flat else (x, y, z, w)
+        return b"edge\n" if setting.table.touches(p) else b"odd\n" if setting.is_odd(p) else b"even\n"
+    if given.request.command == "upgrade":
+        return upgrade(given.tree)
+    p = (x, y, w) if is_flat(given.tree) else (x, y, z, w)
+    return b"edge\n" if is_edge(given.tree, p) else b"in\n" if holds(given.tree, p) else b"out\n"
 
 
-def trial_setting(request: Request) -> Setting:
-    """The boundary that a trial converts."""
-    text = stair(request.steps) if request.kind == "off" else plate(request.steps)
-    elements, faces = read_boundary(request.kind, text)
-    return Setting((elements,), (faces,), request.kind)
-
-
-def check_trial(text: bytes, request: Request, count: int, dice: random.Random) -> None:
-    """Wrong where the text of a trial or its summary is."""
-    setting = trial_setting(request)
-    before, mark, _ = text.partition(b"\ntrial ")
-    front = before + b"\n" if mark else text
-    terms, undecided = check_formula(front, setting, True, count, dice)
+def summary(request: Request, setting: Setting, terms: list[Term], undecided: int) -> bytes:
+    """The lines behind the text of a trial."""
+    flat, discs = map(len, setting.table)
+    parts, inside = len(setting.every), sum(setting.every.values())
+    counts = f"lines {flat}\ndiscs {discs}\ncandidates" if setting.is_flat else f"planes {flat}\ncells"
     literals = sum(len(term.literals()) for term in terms)
-    wanted = summary(request.kind, request.steps, setting, len(terms), literals, undecided)
-    check_bytes(text[len(front) :], wanted, "summary")
+    rest = f"terms {len(terms)}\nliterals {literals}\nundecided {undecided}\n"
+    return f"trial {request.kind} {request.steps}\n{counts} {parts}\ninside {inside}\n{rest}".encode()
+
+
+def check_converted(given: Given, out: bytes, count: int, dice: random.Random) -> None:
+    """Wrong where the text of `convert`, `combine` or `trial` is, or the summary behind it."""
+    setting = setting_of(given)
+    before, mark, _ = out.partition(b"\ntrial ")
+    text = before + b"\n" if mark else out
+    terms, undecided = check_formula(text, setting, True, count, dice)
+    wanted = summary(given.request, setting, terms, undecided) if given.request.steps else b""
+    check_bytes(out[len(text) :], wanted, "summary")
 
 
 def check_out(given: Given, out: bytes, count: int, dice: random.Random) -> None:
     """Wrong where what was written is."""
-    request = given.request
-    if request.command in ("convert", "combine", "factor"):
-        setting = Setting(given.elements, given.faces, request.kind, request.operation)
-        if request.command == "factor":
-            check_factored(out, setting, count, dice)
-        else:
-            check_formula(out, setting, True, count, dice)
-    elif request.command == "prism":
+    command = given.request.command
+    if command in FORMULAS:
+        check_converted(given, out, count, dice)
+    elif command == "factor":
+        check_factored(out, setting_of(given), count, dice)
+    elif command == "prism":
         check_prism(out, given, count, dice)
-    elif request.command == "trial":
-        check_trial(out, request, count, dice)
-    elif request.command == "side":
-        check_bytes(out, side_answer(given), "answer")
-    else:
+    elif command == "audit":
         assert given.tree is not None
-        if request.command == "audit":
-            check_audit(out, given.faces[0], given.tree, count, dice)
-        elif request.command == "ask":
-            check_bytes(out, ask_answer(given.tree, request), "answer")
-        else:
-            check_bytes(out, upgrade(given.tree), "upgraded text")
+        check_audit(out, Audit(given.boundaries[0], given.tree), count, dice)
+    else:
+        check_bytes(out, forced(given), "answer")
 
 
 def verdict(words: Sequence[str], data: bytes, run: Run, count: int = 1000, seed: int = 0) -> str | None:
@@ -93,10 +89,14 @@ def verdict(words: Sequence[str], data: bytes, run: Run, count: int = 1000, seed
     except Stop as stop:
         status, line = stop.status, stop.line + "\n"
     if run.status != status or run.err != line.encode():
-        told = run.err[:200].decode(errors="replace")
-        return f"exit {run.status} with {told!r} on standard error, not exit {status} with {line!r}"
+        return f"exit {run.status} with {run.err[:200]!r} on standard error, not exit {status} with {line.encode()!r}"
+    if run.read not in (None, bytes_taken(words, data)):
+        return f"{run.read} bytes of the input were read, not {bytes_taken(words, data)}"
     if given is None:
         return f"{len(run.out)} bytes on standard output of a refused run" if run.out else None
+    strange = re.search(rb"[^\x00-\x7f]", run.out)
+    if strange:
+        return f"byte {strange.start()} of standard output is {strange.group()!r}, which no text has"
     try:
         check_out(given, run.out, count, random.Random(seed))
     except Wrong as wrong:

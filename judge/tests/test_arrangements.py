@@ -4,18 +4,17 @@ import random
 import unittest
 
 from judging.cells import cells_of, inner
-from judging.contours import check_contours, read_contours
-from judging.meshes import check_mesh, read_mesh
+from judging.requests import read_boundary
 from judging.setting import Setting
 from judging.sweep import Root, compare
-from judging.tables import plane_at, value
-from judging.trees import Numbers
+from judging.tables import row_at
 from judging.trials import plate, stair
+from judging.vectors import Numbers, dot, leading
 
 
 def contours(text: bytes) -> Setting:
     """The setting of some contours."""
-    return Setting((check_contours(read_contours(text)),), (), "contour")
+    return Setting((read_boundary("contour", text),))
 
 
 class CellTest(unittest.TestCase):
@@ -23,7 +22,7 @@ class CellTest(unittest.TestCase):
 
     def test_planes_in_general_position(self) -> None:
         dice = random.Random(4)
-        rows = [plane_at((1, 2, 3 + k), (dice.randint(1, 90), dice.randint(-90, 90), 97)) for k in range(7)]
+        rows = [row_at(leading((dice.randint(1, 90), dice.randint(-90, 90), 97)), (1, 2, 3 + k)) for k in range(7)]
         far = 100_000
         cells = cells_of(((-far,) * 3, (far,) * 3), rows)
         self.assertEqual(len(cells), 1 + 7 + 21 + 35)
@@ -35,19 +34,19 @@ class CellTest(unittest.TestCase):
         for x in range(-9, 10):
             for y in range(-9, 10):
                 for z in range(-9, 10):
-                    values = [value(row, (4 * x + 1, 4 * y + 2, 8 * z + 1, 9)) for row in rows]
+                    values = [dot(row, (4 * x + 1, 4 * y + 2, 8 * z + 1, 9)) for row in rows]
                     if all(values):
                         found.add(sum((side > 0) << at for at, side in enumerate(values)))
         self.assertEqual(set(cells), found)
 
     def test_each_inner_point_has_its_mask(self) -> None:
-        setting = Setting((), (check_mesh(read_mesh(stair(6))),), "off")
+        setting = Setting((read_boundary("off", stair(6)),))
         for mask, corners in setting.regions.items():
             self.assertTrue(setting.is_free(inner(corners)))
-            self.assertEqual(setting.mask(inner(corners)), mask)
+            self.assertEqual(setting.table.mask(inner(corners)), mask)
 
     def test_counts_of_trials(self) -> None:
-        steps = Setting((), (check_mesh(read_mesh(stair(10))),), "off")
+        steps = Setting((read_boundary("off", stair(10)),))
         self.assertEqual((len(steps.free), sum(steps.free.values())), (432, 55))
         holes = contours(plate(4))
         self.assertEqual((len(holes.every), sum(holes.every.values())), (13, 1))
@@ -72,7 +71,7 @@ class SweepTest(unittest.TestCase):
             text = "".join(f"G0 X{x + r} Y{y}\nG3 I-{r}\n" for x, y, r in circles)
             setting = contours(f"{text}G0 X0 Y0\nG1 X9 Y3\nX{dice.randint(-9, 9)} Y9\nX0 Y0".encode())
             for mask, p in setting.points.items():
-                self.assertTrue(setting.is_free(p) and setting.mask(p) == mask)
+                self.assertTrue(setting.is_free(p) and setting.table.mask(p) == mask)
                 self.assertEqual(setting.lean[mask], setting.is_odd(p))
             self.assertLessEqual(set(setting.free), set(setting.lean))
             self.assertLessEqual(set(setting.lean), set(setting.every))
@@ -80,7 +79,7 @@ class SweepTest(unittest.TestCase):
             for _ in range(3000):
                 p = (dice.randint(-2000, 2000), dice.randint(-2000, 2000), 113)
                 if setting.is_free(p):
-                    self.assertEqual(setting.free[setting.mask(p)], setting.is_odd(p))
+                    self.assertEqual(setting.free[setting.table.mask(p)], setting.is_odd(p))
 
     def test_discs_that_touch(self) -> None:
         outside = contours(b"G0 X5 Y0\nG3 I-5\nG0 X11 Y0\nG3 I-3\n")
