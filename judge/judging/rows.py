@@ -3,6 +3,7 @@
 from __future__ import annotations
 
 import re
+from itertools import chain
 from pathlib import Path
 from typing import Iterator, NamedTuple
 
@@ -49,22 +50,26 @@ def table(name: str) -> Iterator[tuple[str, list[str]]]:
             yield f"{name} {number}", line.split(" | ")
 
 
+def again(found: re.Match[str]) -> str:
+    """A text that stands so many times, with the number of the time in the place of each `@`, or so much more."""
+    text, times = found[1], int(found[2])
+    if "@" not in text:
+        return text * times
+    return "".join(re.sub(r"@([+-]\d+)?", lambda sign: str(k + int(sign[1] or 0)), text) for k in range(times))
+
+
 def unfolded(text: str) -> bytes:
-    """The bytes of an input in a table: ` / ` is LF, `<..*3>` stands three times, with the number of the time for `@`."""
-
-    def again(found: re.Match[str]) -> str:
-        number = re.compile(r"@([+-]\d+)?")
-        return "".join(number.sub(lambda sign: str(k + int(sign[1] or 0)), found[1]) for k in range(int(found[2])))
-
-    plain = re.sub(r"<([^<>]*)\*(\d+)>", again, re.sub(r" /( |$)", "\n", text))
-    return plain.encode().decode("unicode_escape").encode("latin-1")
+    """The bytes of a text in a table: ` / ` is LF, `\\x41` a byte by its number, and `<..*3>` stands three times."""
+    plain = re.sub(r" /( |$)", "\n", text).encode().decode("unicode_escape")
+    return re.sub(r"<([^<>]*)\*(\d+)>", again, plain).encode("latin-1")
 
 
 def lines() -> Iterator[Row]:
-    """The rows of the table: command lines parted by `;`, the input, and the one line of the answer."""
-    for name, (commands, text, line) in table("lines"):
+    """The rows of the tables: command lines parted by `;`, the input, and the one line of the answer."""
+    for name, (commands, text, line) in chain(table("lines"), table("limits")):
         for words in commands.split(";"):
-            yield Row(f"{name} {words.split()[0]}", Case(words.split(), unfolded(text)), told(line), "free" if line == "free" else "exactly")
+            case = Case(unfolded(words).decode().split(), unfolded(text))
+            yield Row(f"{name} {case.words[0]}", case, told(line), "free" if line == "free" else "exactly")
 
 
 def cuts() -> Iterator[Row]:
