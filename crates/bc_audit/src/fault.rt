@@ -1,3 +1,5 @@
+//! Why an audit gives no verdict: a block is not the mesh's box, the planes are too many, or memory is short. `verdict`
+//! gives these answers, and `specs/Audits` says when each of the first two comes.
 ghost use Rattle.std.specs.Prelude.{◌≡◌};
 ghost use Rattle.bc_audit.specs.declared.fault.AuditFault.TheVariants.{Memory};
 

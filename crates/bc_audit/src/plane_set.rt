@@ -1,3 +1,5 @@
+//! Planes, each once, in the order in which they came. `planes` fills the set from the faces of a mesh and the slabs of
+//! a tree.
 ghost use Rattle.std.specs.Prelude.{◌≡◌, ◌<◌, ◌^◌, [], length, OnOk};
 ghost use Rattle.bc_natural.specs.Noted.{with_new};
 ghost use Rattle.bc_natural.specs.Planes.{is_same_plane};

@@ -1,3 +1,6 @@
+//! The audit of a tree against a closed mesh: they agree, or they differ at a point that goes with the answer. The
+//! planes of `planes` divide the box into cells, and at each cell's inner point the mesh's parity is compared with what
+//! `holds` says of the tree. `specs/Audits` says what the answer tells.
 ghost use Rattle.std.specs.Prelude.{◌≡◌, length, map, IfOk, IfErr, All};
 ghost use Rattle.bc_num.specs.Sizes.{IsLargePoint3};
 ghost use Rattle.bc_tree.specs.Shape.{shape, AllLeaves};

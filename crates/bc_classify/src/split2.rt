@@ -1,3 +1,6 @@
+//! Masks of candidates in two lists, inside and outside, each mask with a point if one was seen. `classify_candidates`
+//! makes the lists for contours, and `specs/Splits` says what they are.
+
 use bc_num::{List, P2};
 
 /// The mask of a candidate: bit i stands for half-space i, the lines first and then the discs.

@@ -1,3 +1,6 @@
+//! Masks of cells in two lists, inside and outside, each mask with a point. `classify_cells` makes the lists for a
+//! mesh, and `specs/CellSplits` says what they are.
+
 use bc_num::{List, P3};
 
 /// The mask of a cell: bit i stands for plane i.

@@ -1,3 +1,5 @@
+//! The three operations on two boundaries, and whether each is true of the parities of both. `combine_candidates` and
+//! `combine_cells` ask this of each candidate and of each cell.
 ghost use Rattle.std.specs.Prelude.{◌≡◌};
 ghost use Rattle.bc_combine.specs.Combined.{is_true_of};
 

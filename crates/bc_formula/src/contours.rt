@@ -1,3 +1,6 @@
+//! The division and the formula of closed contours. The lines divide the box into regions, each region is taken with
+//! sets of discs, and the masks of these are told inside or outside. `terms` makes the formula of a division, `masks`
+//! says which masks a division has, and `meshes` does the same for meshes.
 ghost use Rattle.std.specs.Prelude.{◌≡◌, ◌<◌, ◌≤◌, ◌++◌, map, length, slice_get, Some, IfOk, IfErr, OnOk, option_map, All};
 ghost use Rattle.bc_num.specs.Points.{IsReduced2};
 ghost use Rattle.bc_num.specs.Sizes.{IsSmallPoint};

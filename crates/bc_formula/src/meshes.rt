@@ -1,3 +1,6 @@
+//! The division and the formula of a closed mesh. The planes of its faces divide the box into cells, and the masks of
+//! the cells are told inside or outside. `terms` makes the formula of a division, and `contours` does the same for
+//! contours.
 ghost use Rattle.std.specs.Prelude.{◌≡◌, ◌<◌, All, map, length, slice_get, Some, IfOk, IfErr};
 ghost use Rattle.bc_num.specs.Sizes.{IsLargePoint3};
 ghost use Rattle.bc_num.specs.declared.box3.Box3.{Box3 as ABox};

@@ -1,3 +1,6 @@
+//! What the words of one line say, and the motion modes. `words` reads a block from a line, and `moves` does what it
+//! says.
+
 /// A motion mode of RS274/NGC: G00, G01, G02 and G03.
 #[derive(Clone, Copy, Debug, PartialEq, Eq)]
 pub enum Motion {

@@ -1,3 +1,5 @@
+//! The faults of a contour text, with the line and the word where each stands, and the order in which they come.
+//! `words` finds the faults of words, and `moves` the faults of blocks and contours.
 ghost use Rattle.std.specs.Prelude.{◌≡◌};
 ghost use Rattle.bc_gcode.specs.declared.fault.GFault.TheVariants.{Memory};
 

@@ -1,3 +1,5 @@
+//! What holds of every contour text: it has one reading at most, and the contours of a reading are closed and within
+//! the limits. `specs/Laws` has the statements.
 ghost use Rattle.bc_gcode.specs.Laws.{ReadAreContours, HasOneReading, HasOneFault, HasNoBoth};
 
 /// A text has at most one list of contours or one first fault, and not both.

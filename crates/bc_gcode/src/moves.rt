@@ -1,3 +1,6 @@
+//! What the block of a line does to a program: it moves the position, adds an element, closes a contour or sets the
+//! motion mode, or it gives the block's first fault. `specs/Program` has the rules, and `read` goes from block to
+//! block.
 ghost use Rattle.std.specs.Prelude.{◌≡◌, ◌+ℤ◌, pos, Result, Option, Some, None, if◌then◌else◌};
 ghost use Rattle.std.specs.Option.{unwrap_or};
 ghost use Rattle.bc_gcode.specs.Answers.{Does};

@@ -1,3 +1,6 @@
+//! The state between two blocks: what the blocks so far have made, and what the next one goes on from. `read` begins
+//! with it and ends it, and `moves` changes it.
+
 use crate::block::Motion;
 use bc_num::{List, V2};
 use bc_solid::Element;

@@ -1,3 +1,5 @@
+//! The contours of a text, or its first fault: line by line, `words` reads the block and `moves` does it, until a word
+//! ends the program or the text ends. `specs/Gcode` says which contours a text leads to.
 ghost use Rattle.std.specs.Prelude.{◌≡◌, ◌≤◌, ◌^◌, length, pos, None, []};
 ghost use Rattle.bc_gcode.specs.Laws.{EndsWell};
 ghost use Rattle.bc_gcode.specs.Gcode.{opening, finish, Gives, Reads};

@@ -1,3 +1,5 @@
+//! The block of a line, or its first word at fault. The words come from `bc_lex` and are taken from left to right.
+//! `specs/Blocks` says which words are read, which are ignored, and which are at fault.
 ghost use Rattle.std.specs.Prelude.{◌≡◌, ◌<◌, ◌^◌, length, Result, Option};
 ghost use Rattle.bc_num.specs.Words.{Word};
 ghost use Rattle.bc_num.specs.Whole.{whole};

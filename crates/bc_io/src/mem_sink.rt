@@ -1,3 +1,5 @@
+//! A sink over bytes in memory: what it holds can be asked for, and a plan says at which writes it fails. `traits` says
+//! what a sink is, and `specs/Memory` what this one tells.
 ghost use Rattle.std.specs.Prelude.{◌≡◌, ◌≤◌, ◌<◌, List, ℕ, Option, Some, [], length, is_err, IfOk, OnOk};
 
 use crate::{Failed, Sink};

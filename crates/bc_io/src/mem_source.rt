@@ -1,3 +1,5 @@
+//! A source over bytes in memory: what is left is known, and a plan says at which reads it fails. `traits` says what a
+//! source is, and `specs/Memory` what this one tells.
 ghost use Rattle.std.specs.Prelude.{◌≡◌, ◌≤◌, ◌<◌, List, ℕ, Option, Some, drop, length, is_err, IfOk, OnOk};
 
 use crate::{Failed, Source};

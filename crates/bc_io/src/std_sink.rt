@@ -1,3 +1,5 @@
+//! A sink over any writer of std, which counts failed writes. `traits` says what a sink is, and `specs/Adapters` what
+//! is kept here.
 ghost use Rattle.std.specs.Prelude.{◌≡◌, List, ℕ, Option};
 
 use crate::{Failed, Sink};

@@ -1,3 +1,5 @@
+//! A source over any reader of std, which counts failed reads. `traits` says what a source is, and `specs/Adapters`
+//! what is kept here.
 ghost use Rattle.std.specs.Prelude.{◌≡◌, List, ℕ, Option};
 
 use crate::{Failed, Source};

@@ -1,3 +1,6 @@
+//! What a source and a sink of bytes promise: how many bytes move, which bytes they are where that is told, and that a
+//! failure raises the count of faults. Those in memory stand in `mem_source` and `mem_sink`, and those over std in
+//! `std_source` and `std_sink`.
 ghost use Rattle.std.specs.Prelude.{◌≡◌, ◌<◌, List, ℕ, Option, length, IfOk, OnOk};
 ghost use Rattle.std.specs.Io.{ReadsAtMost, WritesAtMost};
 ghost use Rattle.std.specs.Io.KnownBytes.{ReadConsumes, WriteAppends};

@@ -1,3 +1,5 @@
+//! A whole text moved by one call: read from a source up to a limit, or written to a sink, however few bytes each read
+//! or write moves. `traits` has the single reads and writes.
 ghost use Rattle.std.specs.Prelude.{◌≡◌, ◌+◌, ◌<◌, ◌≤◌, ◌^◌, List, ℕ, length, IfOk, OnOk, IfSome, IsErrOf};
 ghost use Rattle.std.specs.Io.KnownBytes.{Consumes, IsAtEnd};
 ghost use Rattle.bc_io.specs.Causes.{HasCause, Rose};

@@ -1,3 +1,5 @@
+//! The words of a contour line, each a letter with its number, one after another, or where no word begins. `lines`
+//! gives the line. `specs/GWords` says what the next word is, and `words` cuts the lines of other texts.
 ghost use Rattle.std.specs.Prelude.{◌≡◌, ◌-◌, ◌<◌, ◌≤◌, ◌^◌, length, IfOk, IfSome};
 ghost use Rattle.bc_num.specs.Tokens.{is_letter};
 ghost use Rattle.bc_num.specs.Words.{is_line_blank, is_ignored, capital, blanks};

@@ -1,3 +1,6 @@
+//! What holds of every text: the items that come one after another are all lines, words or tokens, and they stand in
+//! order without overlap. `specs/Left` and `specs/Stream` have the statements on which items come, and `specs/Order`
+//! and `specs/TokenOrder` those on where they stand.
 ghost use Rattle.bc_lex.specs.Left.{NextLineIsFirst, NextWordIsFirst, AllWordsAreLeft, NextPlainIsFirst, AllPlainAreLeft};
 ghost use Rattle.bc_lex.specs.Order.{LinesStandInOrder, LinesEnd, WordsStandInOrder, WordsEnd, WordsBreak, BreaksAgain, PlainStandInOrder, PlainEnd};
 ghost use Rattle.bc_lex.specs.Stream.{NextTokenIsFirst, AllTokensAreLeft, StreamIsTokens};

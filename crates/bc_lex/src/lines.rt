@@ -1,3 +1,5 @@
+//! The lines of a text, one after another, each with its number. `words` and `gwords` cut a line into words, and
+//! `specs/Lines` says what the next line is.
 ghost use Rattle.std.specs.Prelude.{◌≡◌, ◌-◌, ◌<◌, ◌≤◌, ◌^◌, length, IfSome};
 ghost use Rattle.std.specs.Option.{option_map};
 ghost use Rattle.bc_lex.specs.Lines.{line_length, next_line, after_line, line};

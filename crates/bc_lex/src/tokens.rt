@@ -1,3 +1,5 @@
+//! The tokens of a CSG text, one after another, each with its line and its place, or where no token begins.
+//! `specs/Tokens` says what the next token is.
 ghost use Rattle.std.specs.Prelude.{◌≡◌, ◌-◌, ◌<◌, ◌≤◌, ◌+◌, ◌^◌, length, IfOk, IfSome};
 ghost use Rattle.bc_num.specs.Tokens.{is_digit, is_word, is_mark, is_blank, front};
 ghost use Rattle.bc_lex.specs.Tokens.{free_length, line_ends, found, FitsIn, next_token, after_token, text_start, seen};

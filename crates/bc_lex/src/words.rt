@@ -1,3 +1,5 @@
+//! The words of a line between blanks, up to a `#`, one after another, each with its place. `lines` gives the line, and
+//! `specs/Words` says what the next word is. The words of contour lines are in `gwords`.
 ghost use Rattle.std.specs.Prelude.{◌≡◌, ◌-◌, ◌<◌, ◌≤◌, ◌^◌, length, is_none, IfSome};
 ghost use Rattle.std.specs.Option.{option_map};
 ghost use Rattle.bc_lex.specs.Lines.{line};

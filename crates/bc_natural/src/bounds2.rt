@@ -1,3 +1,5 @@
+//! The box of contours: the spans of all elements along both axes, with the rims of the arcs' circles, wider by 1 on
+//! each side. `specs/Spans` says what a span is. `bounds3` has the box of a mesh.
 ghost use Rattle.std.specs.Prelude.{◌≡◌, ◌<◌, ◌≤◌, pos, ◌+ℤ◌, ◌-ℤ◌, Any, length};
 ghost use Rattle.std.specs.Int.{int_min, int_max};
 ghost use Rattle.bc_algebra.specs.Within.{IsWithin};

@@ -1,3 +1,5 @@
+//! The box of a mesh: the spans of all corners along the three axes, wider by 1 on each side. `specs/Spans` says what
+//! the spans are. `bounds2` has the box of contours.
 ghost use Rattle.std.specs.Prelude.{◌≡◌, ◌<◌, pos, ◌+ℤ◌, ◌-ℤ◌, length, slice_get, Some};
 ghost use Rattle.bc_algebra.specs.Within.{IsWithin};
 ghost use Rattle.bc_num.specs.Sizes.{AreCoords3};

@@ -1,3 +1,5 @@
+//! The first corner of a mesh's face. `gather_planes` takes it as origin of the face's plane, and `bounds3` begins the
+//! face's spans with it.
 ghost use Rattle.std.specs.Prelude.{◌≡◌, ◌<◌, length, slice_get, Some};
 ghost use Rattle.bc_num.specs.Sizes.{AreCoords3};
 ghost use Rattle.bc_solid.specs.Facets.{Facet};

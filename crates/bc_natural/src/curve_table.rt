@@ -1,3 +1,5 @@
+//! The table of the half-spaces of contours: distinct lines with their origins, and distinct discs, asked for by number
+//! or as lists. `gather_curves` fills it, and `specs/Curves` says what it holds.
 ghost use Rattle.std.specs.Prelude.{◌≡◌, ◌<◌, [], length, slice_get, Some, IfOk, OnOk, map};
 ghost use Rattle.std.specs.List.{list_any};
 ghost use Rattle.bc_natural.specs.Curves.{lines_of, is_same_line, is_same_disc};

@@ -1,3 +1,5 @@
+//! The table of the lines and discs that contours induce, element by element, or the first limit that it passes.
+//! `curve_table` keeps it, `limits` has the limits, and `specs/Curves` says what the table is.
 ghost use Rattle.std.specs.Prelude.{◌≡◌, List, pos, ◌<ℤ◌, IfOk, IfErr, OnOk};
 ghost use Rattle.bc_solid.specs.declared.element.Element.{Element};
 ghost use Rattle.bc_num.specs.Measures.{square_between};

@@ -1,3 +1,5 @@
+//! The table of the planes that a mesh induces, face by face, or the fault where they are too many. `plane_table` keeps
+//! it, `limits` has the limit, and `specs/Planes` says what the table is.
 ghost use Rattle.std.specs.Prelude.{List, IfOk, IfErr};
 ghost use Rattle.bc_solid.specs.Facets.{Facet};
 ghost use Rattle.bc_natural.specs.Planes.{ArePlanes, ArePlanesSized, ArePlanesFew, IsPlaneLimitFault};

@@ -1,3 +1,6 @@
+//! How many distinct half-spaces of each kind an input may have. `gather_curves` and `gather_planes` hold the tables to
+//! these numbers.
+
 /// How many distinct lines contours may have.
 pub const MOST_LINES: usize = 40;
 

@@ -1,3 +1,5 @@
+//! Why an input gives no table of half-spaces: more planes, lines or discs than the constants in `limits` allow, or no
+//! memory. `gather_curves` and `gather_planes` give these answers.
 ghost use Rattle.std.specs.Prelude.{◌≡◌};
 ghost use Rattle.bc_natural.specs.declared.nat_fault.NatFault.TheVariants.{Memory};
 

@@ -1,3 +1,5 @@
+//! The table of the half-spaces of a mesh: distinct planes with their origins, asked for by number or as a list.
+//! `gather_planes` fills it, and `specs/Planes` says what it holds.
 ghost use Rattle.std.specs.Prelude.{◌≡◌, ◌<◌, [], length, slice_get, Some, IfOk, OnOk, map};
 ghost use Rattle.std.specs.List.{list_any};
 ghost use Rattle.bc_natural.specs.Noted.{with_new};

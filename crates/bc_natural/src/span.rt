@@ -1,3 +1,5 @@
+//! The least and the greatest of numbers along one axis, and along the three axes of space. `bounds2` and `bounds3`
+//! make boxes of them, and `specs/Spans` says of which numbers they are.
 ghost use Rattle.std.specs.Prelude.{◌≤ℤ◌};
 ghost use Rattle.bc_algebra.specs.Within.{IsWithin};
 

@@ -1,3 +1,5 @@
+//! The two words of a product, one for each sign of its literals: the bits of a sign, and the product without one
+//! literal of that sign. `specs/Products` says what a product without a literal is.
 ghost use Rattle.std.specs.Prelude.{◌≡◌, ◌<◌};
 ghost use Rattle.bc_notes.specs.Products.{without_literal};
 ghost use Rattle.bc_notes.specs.Bests.{literal_of, word_of};

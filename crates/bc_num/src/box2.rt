@@ -1,3 +1,4 @@
+//! A rectangle along the axes by whole numbers, with each least number below the greatest. `box3` has the box of space.
 ghost use Rattle.std.specs.Prelude.{◌<ℤ◌};
 
 /// A rectangle along the axes, from its least corner `(x0, y0)` to its greatest `(x1, y1)`. Each least number is

@@ -1,3 +1,5 @@
+//! A box of space along the axes by whole numbers, with each least number below the greatest. `box2` has the box of the
+//! plane.
 ghost use Rattle.std.specs.Prelude.{◌<ℤ◌};
 
 /// A box along the axes, from its least corner `(x0, y0, z0)` to its greatest `(x1, y1, z1)`. Each least number is

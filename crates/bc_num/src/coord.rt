@@ -1,3 +1,5 @@
+//! The limit of the coordinates of an input, and a whole number that is within it. `specs/Sizes` says what a coordinate
+//! is.
 ghost use Rattle.std.specs.Prelude.{◌≡◌, ◌≤◌, ◌↔◌, unsigned_abs, IsSome, IfSome};
 ghost use Rattle.bc_num.specs.Sizes.{IsCoord};
 

@@ -1,3 +1,5 @@
+//! The primitive vector on the line of a vector of the plane; the zero vector has none. `divisors` has the greatest
+//! common divisor, `specs/Directions` says which vector it is, and `directions3` does the same in space.
 ghost use Rattle.std.specs.Prelude.{◌≡◌, ◌⊎◌, ◌^◌, ◌↔◌, IsTrue, IsNone, IfSome};
 ghost use Rattle.bc_algebra.specs.Within.{IsWithin};
 ghost use Rattle.bc_num.specs.Directions.{IsZero2, IsLeading2, IsOverGcd2, IsPrimitiveOf2, opposite2};

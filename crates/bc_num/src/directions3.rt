@@ -1,3 +1,5 @@
+//! The primitive vector on the line of a vector of space; the zero vector has none. `divisors` has the greatest common
+//! divisor, `specs/Directions3` says which vector it is, and `directions` does the same in the plane.
 ghost use Rattle.std.specs.Prelude.{◌≡◌, ◌⊎◌, ◌^◌, ◌↔◌, IsTrue, IsFalse, IsNone, IfSome};
 ghost use Rattle.bc_algebra.specs.Within.{IsWithin};
 ghost use Rattle.bc_num.specs.Directions3.{IsZero3, IsLeading3, IsOverGcd3, IsPrimitiveOf3, opposite3};

@@ -1,3 +1,4 @@
+//! A disc of the plane by its whole centre and its squared radius, so that no root is taken.
 ghost use Rattle.std.specs.Prelude.{pos, ◌<ℤ◌};
 
 use crate::V2;

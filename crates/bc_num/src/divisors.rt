@@ -1,3 +1,5 @@
+//! Greatest common divisors of two, three and four whole numbers, by Euclid's algorithm, and exact quotients.
+//! `specs/Divides` says what they are. `fractions`, `directions` and `directions3` divide with them.
 ghost use Rattle.std.specs.Prelude.{◌≡◌, pos, ◌*ℤ◌, ◌<ℤ◌, ◌≤◌, ◌^◌, max};
 ghost use Rattle.std.specs.Int.{IsGcd};
 ghost use Rattle.bc_algebra.specs.Within.{IsWithin};

@@ -1,3 +1,5 @@
+//! Rational points in lowest terms, in the plane and in space: all numbers of a point over their greatest common
+//! divisor. `divisors` has that divisor, and `specs/Points` says which points are the same.
 ghost use Rattle.std.specs.Prelude.{◌^◌};
 ghost use Rattle.bc_algebra.specs.Within.{IsWithin};
 ghost use Rattle.bc_num.specs.Points.{IsSamePoint2, IsReduced2, IsNoLarger2, IsSamePoint3, IsReduced3, IsNoLarger3};

@@ -1,3 +1,4 @@
+//! Lists that keep their allocator. A contract sees the items alone, and a push with no room leaves the list as it was.
 ghost use Rattle.std.specs.Prelude.{◌≡◌, ◌<◌, [], ◌∷◌, ◌++◌, length, slice_get, Some, OnOk, OnErr};
 
 use crate::Memory;

@@ -1,3 +1,5 @@
+//! The answer for want of memory, and how a failed allocation of std becomes this answer.
+
 use std::alloc::{AllocError, AllocFailed};
 
 /// There is no memory left. This answer may come at any allocation. What was lent to the call is then as it was, unless

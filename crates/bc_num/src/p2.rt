@@ -1,3 +1,5 @@
+//! A rational point of the plane: two numbers over one denominator above 0. `fractions` brings it to lowest terms, and
+//! `specs/Points` says when two are the same point.
 ghost use Rattle.std.specs.Prelude.{pos, ◌<ℤ◌};
 
 /// The rational point `(x / w, y / w)` of the plane. `w` is at least 1. Each point has many such forms: `reduce2` gives

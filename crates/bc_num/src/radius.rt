@@ -1,3 +1,5 @@
+//! How far a circle reaches from its centre along an axis, told from its squared radius and rounded up. The answer is
+//! the least of all whole numbers that are enough.
 ghost use Rattle.std.specs.Prelude.{ℕ, ◌≤◌, ◌<◌, ◌*◌};
 
 /// The least m with `m * m >= r2`: how far a circle of squared radius `r2` reaches from its centre along an axis,

@@ -1,3 +1,6 @@
+//! Whole numbers from the bytes of a text: the value of a word with a sign and a point, the value of digits alone, and
+//! how many bytes the number at the front of some bytes has. A value is cut at 2^62. `specs/Numbers` says what a
+//! number is, and `specs/Whole` what its value is.
 ghost use Rattle.std.specs.Prelude.{◌≡◌, ◌+◌, ◌-◌, ◌*◌, ◌≤◌, ◌^◌, length, min};
 ghost use Rattle.bc_num.specs.Tokens.{is_digit};
 ghost use Rattle.bc_num.specs.Numbers.{digits, unsigned, ends_number, has_nonzero, value, more, unsigned_length, number_length};

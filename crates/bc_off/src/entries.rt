@@ -1,3 +1,5 @@
+//! One word of a line at a time, as a whole number or a coordinate, with the fault that names its line and its place;
+//! and the check that no word is left. The lines with words come from `rows`.
 ghost use Rattle.std.specs.Prelude.{◌≡◌, ◌+◌, ◌≤◌, ◌^◌, length};
 ghost use Rattle.bc_lex.specs.Words.{after_plain};
 ghost use Rattle.bc_lex.specs.Left.{plain_left};

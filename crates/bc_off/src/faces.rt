@@ -1,3 +1,5 @@
+//! The faces of a mesh, from the lines behind its vertices. A line says how many corners there are, then the corners,
+//! and then at most four words that are passed over. The vertices are read in `vertices`.
 ghost use Rattle.std.specs.Prelude.{◌≡◌, ◌+◌, ◌≤◌, ◌^◌, length, drop, OnOk};
 ghost use Rattle.bc_lex.specs.Words.{after_plain};
 ghost use Rattle.bc_lex.specs.Left.{plain_left};

@@ -1,3 +1,4 @@
+//! Why a text says no mesh: the first fault, with its line and its word. `read` has the call that answers it.
 ghost use Rattle.std.specs.Prelude.{◌≡◌};
 ghost use Rattle.bc_off.specs.declared.fault.OffFault.TheVariants.{Memory};
 

@@ -1,3 +1,5 @@
+//! The front of an OFF text: the word `OFF`, and how many vertices and faces are announced. The vertices and faces
+//! behind it are read in `vertices` and `faces`.
 ghost use Rattle.std.specs.Prelude.{◌≡◌, ◌+◌, ◌≤◌, ◌^◌, length};
 ghost use Rattle.bc_num.specs.Whole.{whole};
 ghost use Rattle.bc_lex.specs.Words.{after_plain};

@@ -1,3 +1,5 @@
+//! Laws of the reader, over the definitions alone: a text has one reading, and a mesh that it says is within the
+//! limits.
 ghost use Rattle.bc_off.specs.Laws.{ReadAreMeshes, HasOneReading, HasOneFault, HasNoBoth};
 
 /// A text has at most one mesh or one first fault, and not both.

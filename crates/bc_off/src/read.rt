@@ -1,3 +1,5 @@
+//! The mesh that a whole text says, or its first fault: the header, the vertices and the faces in turn, and then no
+//! line with words. `specs/Off` says what is right.
 ghost use Rattle.std.specs.Prelude.{◌≡◌, ◌≤◌, ◌^◌, length};
 ghost use Rattle.bc_off.specs.Left.{rows_left};
 ghost use Rattle.bc_off.specs.Off.{no_rows, Reads};

@@ -1,3 +1,4 @@
+//! The next line of a text that has words. Lines without words are passed over.
 ghost use Rattle.std.specs.Prelude.{◌≡◌, ◌≤◌, ◌<◌, ◌^◌, [], length, IfSome, IfNone};
 ghost use Rattle.bc_lex.specs.Left.{lines_left};
 ghost use Rattle.bc_off.specs.Left.{rows_left, row_then, end_left, IsRowStart};

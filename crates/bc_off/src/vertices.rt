@@ -1,3 +1,5 @@
+//! The vertices of a mesh, from the lines behind the header: three coordinates on each line. The faces behind them are
+//! read in `faces`.
 ghost use Rattle.std.specs.Prelude.{◌≡◌, ◌≤◌, ◌^◌, length, drop, OnOk};
 ghost use Rattle.bc_off.specs.Answers.{Gives};
 ghost use Rattle.bc_off.specs.Left.{rows_left, end_left, row_at};

@@ -1,3 +1,5 @@
+//! Where a joined text is cut: at its first line that is `====`, with or without a CR behind it. Each part is a slice
+//! of the text.
 ghost use Rattle.std.specs.Prelude.{◌≡◌, ◌<◌, ◌≤◌, ◌^◌, length, take, drop, IsErr, IfOk, ◌↔◌};
 ghost use Rattle.bc_pair.specs.Parts.{is_separator as separates, HasNoSeparator, ArePartsOf, parts};
 

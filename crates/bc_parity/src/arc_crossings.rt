@@ -1,3 +1,6 @@
+//! Whether the ray straight down from a point crosses an arc once and not twice, and whether the point is on the arc's
+//! circle. At most two points of the circle are in the point's column; for each it is told whether it is on the arc
+//! and below the point. Segments are in `edge_crossings`.
 ghost use Rattle.std.specs.Prelude.{◌≡◌, true, int_le, int_lt, ◌*ℤ◌, ◌&&◌};
 ghost use Rattle.std.specs.Ordering.{int_eq};
 ghost use Rattle.bc_num.specs.Measures.{square_distance, square_between};

@@ -1,3 +1,5 @@
+//! Whether the ray straight down from a point crosses a segment, and whether the point is on the segment's line. It is
+//! told by the columns of the ends and the side of the line. Arcs are in `arc_crossings`.
 ghost use Rattle.std.specs.Prelude.{◌≡◌, pos, int_lt};
 ghost use Rattle.std.specs.Ordering.{int_eq};
 ghost use Rattle.bc_num.specs.Measures.{turn as turn_of, is_same as are_same};

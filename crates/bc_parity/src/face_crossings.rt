@@ -1,3 +1,5 @@
+//! Whether the ray straight down from a point of space crosses a face: seen from above, the point is in the face by
+//! the edges that a ray in the plane crosses, and it is above the face's plane. `face_queries` counts over all faces.
 ghost use Rattle.std.specs.Prelude.{◌≡◌, ◌<◌, ℤ, pos, ◌-ℤ◌, ◌*ℤ◌, int_lt, not, ◌&&◌, ◌||◌, length, slice_get, Some};
 ghost use Rattle.std.specs.Ordering.{int_eq};
 ghost use Rattle.bc_num.specs.Measures.{turn as turn_of};

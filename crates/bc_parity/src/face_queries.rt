@@ -1,3 +1,5 @@
+//! Whether a point of space has an odd number of faces of a closed mesh below it, and whether it is on the plane of
+//! one. The crossing of one face is in `face_crossings`; the same of contours is in `queries`.
 ghost use Rattle.std.specs.Prelude.{◌≡◌, ◌↔◌, IsTrue, Any, false, pos};
 ghost use Rattle.bc_num.specs.Sizes.{IsLargePoint3};
 ghost use Rattle.bc_space.specs.Planes.{plane_value};

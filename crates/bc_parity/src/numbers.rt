@@ -1,3 +1,5 @@
+//! The numbers that crossings in the plane are told by: turns, widths, columns, levels and squared distances. All but
+//! the widths are scaled by the point's denominator or its square, so that they are whole.
 ghost use Rattle.std.specs.Prelude.{◌≡◌, ◌-ℤ◌, ◌*ℤ◌};
 ghost use Rattle.bc_num.specs.Measures.{across, square_distance, square_between, turn as turn_of};
 ghost use Rattle.bc_num.specs.Sizes.{AreCoords, IsSmallPoint};

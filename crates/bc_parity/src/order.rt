@@ -1,3 +1,5 @@
+//! The comparisons that crossings are told by, of numbers and truth values alone. Among them is the order of points
+//! along a circle, counter-clockwise from its right extreme.
 ghost use Rattle.std.specs.Prelude.{◌≡◌, pos, ◌*ℤ◌, int_lt, int_le, ◌&&◌, ◌||◌};
 ghost use Rattle.std.specs.Ordering.{int_eq};
 ghost use Rattle.bc_parity.specs.Parity.{xor};

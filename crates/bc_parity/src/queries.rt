@@ -1,3 +1,6 @@
+//! Whether a point of the plane has an odd number of crossings with contours below it, with their arcs or with the
+//! chords in place of these; and whether it is on the line of an edge or a chord, or on the circle of an arc. One
+//! segment is in `edge_crossings`, one arc in `arc_crossings`; the same of meshes is in `face_queries`.
 ghost use Rattle.std.specs.Prelude.{◌≡◌, ◌↔◌, IsTrue, Any, false};
 ghost use Rattle.bc_num.specs.Sizes.{IsSmallPoint};
 ghost use Rattle.bc_solid.specs.Closed.{AreNear};

@@ -1,3 +1,4 @@
+//! Why a text spells no tree: the first fault, with its line and its token. `read` has the call that answers it.
 ghost use Rattle.std.specs.Prelude.{◌≡◌};
 ghost use Rattle.bc_read.specs.declared.fault.CsgFault.TheVariants.{Memory};
 

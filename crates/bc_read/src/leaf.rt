@@ -1,3 +1,6 @@
+//! The leaf that the numbers of a form say, or none. The numbers of a disc, block or tile are held against their
+//! ranges. A slab or strip is found from some of its numbers, and all of them are then compared with those that the
+//! leaf has; this is so for the short form of an axis leaf too.
 ghost use Rattle.std.specs.Prelude.{◌≡◌, ◌↔◌, [], ◌∷◌, pos, ◌+ℤ◌, ◌<ℤ◌, IsSome, IfSome};
 ghost use Rattle.bc_tree.specs.Decided.{is_solid_leaf as solid_leaf};
 ghost use Rattle.bc_tree.specs.declared.tree.Leaf.TheVariants as leaves;

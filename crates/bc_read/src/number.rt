@@ -1,3 +1,5 @@
+//! The number that a token says: digits without a leading zero, with `-` before them where it is below 0, and at most
+//! 8,388,607 in size.
 ghost use Rattle.std.specs.Prelude.{◌≡◌};
 ghost use Rattle.bc_read.specs.Numbers.{is_numeral as numeral, leads_zero as zero_leads, size_of as size, value_of as value};
 

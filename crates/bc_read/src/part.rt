@@ -1,3 +1,5 @@
+//! The parts of CSG text: which name begins which part, and the pattern of a part's tokens. `reading` goes through a
+//! pattern token by token.
 ghost use Rattle.std.specs.Prelude.{◌≡◌, bytes_eq};
 ghost use Rattle.bc_read.specs.Table.{pattern as pattern_of, op_named, begins, chosen, word_of};
 

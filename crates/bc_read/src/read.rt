@@ -1,3 +1,5 @@
+//! The tree that a whole text spells, or its first fault: its tokens are taken one by one, until one is at fault or
+//! none is left. What a token does is in `reading`.
 ghost use Rattle.std.specs.Prelude.{◌≡◌, ◌≤◌, ◌^◌, length};
 ghost use Rattle.bc_read.specs.Machine.{state, finish as finishes, end_line as line_behind, Reads};
 

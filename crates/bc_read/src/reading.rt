@@ -1,3 +1,6 @@
+//! The state of the reader between two tokens, and what a token does to it. The state has the open operators, the
+//! numbers of the leaf so far and what may stand next. The parts are in `part`, the leaves in `leaf`, and the loop
+//! over all tokens is in `read`.
 ghost use Rattle.std.specs.Prelude.{◌≡◌, [], reverse, Ok, IfOk};
 ghost use Rattle.bc_lex.specs.Tokens.{atoken};
 ghost use Rattle.bc_read.specs.declared.fault.CsgFault.TheVariants.{BadShape};

@@ -1,3 +1,5 @@
+//! Trees against a tetrahedron: one that means it, also with a plane turned over; one with another box; and one that
+//! lacks a literal, with the point that shows it.
 ghost use Rattle.std.specs.Prelude.{◌≡◌, [], ◌∷◌, IfOk};
 ghost use Rattle.bc_tree.specs.Shape.{shape, AllLeaves};
 ghost use Rattle.bc_tree.specs.Leaves.{IsLeaf, IsBlock};

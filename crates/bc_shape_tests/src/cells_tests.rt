@@ -1,3 +1,5 @@
+//! The regions of a box without lines and with three lines, by their masks and some of their corners, and a region
+//! that a line splits in two.
 use bc_cells::*;
 use bc_num::{Box2, P2};
 use bc_space::{Flat, Line2};

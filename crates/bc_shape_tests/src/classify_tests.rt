@@ -1,3 +1,5 @@
+//! Which masks are inside and which outside: of half a disc, of a disc by two arcs, of a circle once and twice, and of
+//! the cells of a tetrahedron.
 ghost use Rattle.std.specs.Prelude.{◌≡◌, ◌≤◌, ◌<◌, ◌^◌, true, [], ◌∷◌, length, OnOk, IfOk, All};
 ghost use Rattle.std.specs.List.{list_all};
 ghost use Rattle.bc_solid.specs.Closed.{IsContour};

@@ -1,3 +1,5 @@
+//! How many regions or cells are inside two boundaries under each operation: two squares that overlap, and a
+//! tetrahedron with itself.
 ghost use Rattle.std.specs.Prelude.{◌≡◌, ◌≤◌, ◌<◌, ◌^◌, true, [], ◌∷◌, length, IfOk, All};
 ghost use Rattle.std.specs.List.{list_all};
 ghost use Rattle.bc_solid.specs.Closed.{IsContour};

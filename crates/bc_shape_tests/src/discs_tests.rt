@@ -1,3 +1,5 @@
+//! Which sets of discs are listed with a region: of discs round one centre, of discs that touch, and of a disc across
+//! a line; and which masks a lean list has.
 ghost use Rattle.std.specs.Prelude.{◌≤◌, length, All};
 ghost use Rattle.bc_space.specs.Lines.{IsSizedLine};
 ghost use Rattle.bc_space.specs.Discs.{IsSizedDisc};

@@ -1,3 +1,5 @@
+//! The lines, discs and planes of boundaries with their origins, the boxes round them, and what is answered at and
+//! past the limits of lines and discs.
 ghost use Rattle.std.specs.Prelude.{◌≡◌, ◌≤◌, ◌<◌, ◌^◌, true, [], ◌∷◌, length, nat_lt, IfOk};
 ghost use Rattle.std.specs.List.{list_all};
 ghost use Rattle.bc_solid.specs.Closed.{IsContour};

@@ -1,3 +1,5 @@
+//! Divisors, lowest terms, primitive vectors, reaches of circles, coordinates about their bounds, and lists that take
+//! items.
 use bc_num::*;
 use std::alloc::Global;
 use std::test::Fail;

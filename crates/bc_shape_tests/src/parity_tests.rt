@@ -1,3 +1,5 @@
+//! Points against contours with an arc and against a tetrahedron: odd, even or on an edge. Some of them are in the
+//! column of an end, or close to a corner.
 ghost use Rattle.std.specs.Prelude.{◌≡◌, ◌≤◌, ◌^◌, ◌<ℤ◌, true, pos, [], ◌∷◌, length, IfOk};
 ghost use Rattle.std.specs.List.{list_all};
 ghost use Rattle.bc_algebra.specs.Within.{IsWithin};

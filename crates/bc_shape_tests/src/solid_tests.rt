@@ -1,3 +1,4 @@
+//! What the checks of contours and of meshes take, and the first fault that they tell.
 ghost use Rattle.std.specs.Prelude.{◌≡◌, ◌≤◌, ◌^◌, true, length, nat_lt, IfOk};
 ghost use Rattle.std.specs.List.{list_all};
 ghost use Rattle.bc_solid.specs.Closed.{IsContour};

@@ -1,3 +1,5 @@
+//! Lines and planes through places, sides of points, points where lines or planes meet, mediants, and the walls of
+//! boxes, in the plane and in space.
 use bc_num::{Box2, Box3, Disc2, P2, P3, V2, V3};
 use bc_space::*;
 

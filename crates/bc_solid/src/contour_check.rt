@@ -1,3 +1,5 @@
+//! The check of contours: each arc in turn has ends equally far from its centre, and is no point. What is checked
+//! becomes a profile, whose promises are in `profile`.
 ghost use Rattle.std.specs.Prelude.{◌≡◌, ◌≢◌, ◌≤◌, ◌^◌, ◌+◌, ◌++◌, [], None, Some, length, OnOk, IfOk, IfErr, All};
 ghost use Rattle.std.specs.Ordering.{int_eq};
 ghost use Rattle.bc_num.specs.Measures.{is_same};

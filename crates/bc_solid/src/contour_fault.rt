@@ -1,3 +1,4 @@
+//! Why contours are no profile: the first arc at fault. `contour_check` has the call that answers it.
 ghost use Rattle.std.specs.Prelude.{◌≡◌};
 ghost use Rattle.bc_solid.specs.declared.contour_fault.ContourFault.TheVariants.{Memory};
 

@@ -1,3 +1,5 @@
+//! The directed edges of faces: from each corner to the next, and from the last to the first. An edge with its lesser
+//! end first is the key that `edge_table` counts by.
 ghost use Rattle.std.specs.Prelude.{◌≡◌, ◌≢◌, ◌↔◌, ◌<◌, ◌++◌, true, length, map, Some, slice_get, IsTrue, IfOk, OnOk};
 ghost use Rattle.bc_solid.specs.Meshes.{edges, all_edges, joins};
 ghost use Rattle.bc_solid.specs.Facets.{facet_of, outlines};

@@ -1,3 +1,5 @@
+//! How often each pair of ends occurs among the edges of faces, whichever way they lead, and the first pair with an
+//! odd number. The edges come from `edge`.
 ghost use Rattle.std.specs.Prelude.{◌≡◌, ◌≢◌, ◌≤◌, ◌<◌, ◌^◌, ◌%◌, [], length, map, Some, slice_get, All, IfOk, IfSome, IsNone, OnOk};
 ghost use Rattle.std.specs.Map.{keys_of};
 ghost use Rattle.bc_solid.specs.EdgeTables.{edge_of, count_of, CountsOnce, IsEdgeTable, IsFirstOdd};

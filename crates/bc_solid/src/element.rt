@@ -1,3 +1,4 @@
+//! What contours are made of: edges and arcs.
 use bc_num::V2;
 
 /// A part of a plane contour: a straight edge, or an arc round `c`, counter-clockwise or clockwise as seen with x to

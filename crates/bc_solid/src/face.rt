@@ -1,3 +1,5 @@
+//! A face of a mesh as the numbers of its places. Up to eight corners are kept without an allocation; the coordinates
+//! of the corners are told in `outline`.
 ghost use Rattle.std.specs.Prelude.{◌≡◌, ◌<◌, [], ◌∷◌, ◌++◌, length, Some, slice_get, OnOk, OnErr};
 
 use bc_num::Memory;

@@ -1,3 +1,5 @@
+//! The plane of a face, from the coordinates of its corners: that of its first two and the first one off their line.
+//! All corners are then held against it, and the first that is off it is a fault.
 ghost use Rattle.std.specs.Prelude.{◌≡◌, ◌≤◌, ◌^◌, length, All, IfOk, IfErr, IfSome, IsNone};
 ghost use Rattle.std.specs.Ordering.{int_eq};
 ghost use Rattle.bc_num.specs.Sizes.{AreCoords3};

@@ -1,3 +1,5 @@
+//! The check of a mesh, each part in turn: neighbouring corners differ, each face has a plane, and each edge occurs an
+//! even number of times. What is checked becomes a solid, whose promises are in `solid`.
 ghost use Rattle.std.specs.Prelude.{◌≡◌, ◌≢◌, ◌≤◌, ◌^◌, true, length, map, nat_lt, All, IfOk, IfErr};
 ghost use Rattle.std.specs.List.{list_all};
 ghost use Rattle.bc_num.specs.Sizes.{AreCoords3};

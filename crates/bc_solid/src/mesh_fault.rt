@@ -1,3 +1,4 @@
+//! Why a mesh is no solid: the first face or edge at fault. `mesh_check` has the call that answers it.
 ghost use Rattle.std.specs.Prelude.{◌≡◌};
 ghost use Rattle.bc_solid.specs.declared.mesh_fault.MeshFault.TheVariants.{Memory};
 

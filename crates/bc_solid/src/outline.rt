@@ -1,3 +1,4 @@
+//! The corners of a face by their coordinates, and the first corner that is the same as the next one.
 ghost use Rattle.std.specs.Prelude.{◌≡◌, true, length, nat_lt, All, IfOk, IfSome, IsNone};
 ghost use Rattle.std.specs.List.{list_all};
 ghost use Rattle.bc_num.specs.Sizes.{AreCoords3};

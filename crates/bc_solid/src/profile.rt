@@ -1,3 +1,5 @@
+//! Closed contours that are checked: how many elements they have, and each of them by its number. `contour_check`
+//! makes a profile of contours as they are read, and `join` one of two.
 ghost use Rattle.std.specs.Prelude.{◌≡◌, ◌≤◌, ◌<◌, ◌^◌, length, slice_get, Some};
 ghost use Rattle.bc_solid.specs.Closed.{AreNear, IsProfile};
 

@@ -1,3 +1,5 @@
+//! Contours as they are read: each closed, with coordinates in range, and arcs that are not checked. `contour_check`
+//! makes a profile of them.
 ghost use Rattle.std.specs.Prelude.{◌≡◌, ◌≤◌, ◌^◌, true, length, All};
 ghost use Rattle.std.specs.List.{list_all};
 ghost use Rattle.bc_solid.specs.Closed.{IsContour, joined};

@@ -1,3 +1,5 @@
+//! A mesh as it is read: places, and faces by the numbers of these, with all numbers in range. `mesh_check` makes a
+//! solid of it.
 ghost use Rattle.std.specs.Prelude.{◌≡◌, ◌≤◌, ◌^◌, true, length, nat_lt};
 ghost use Rattle.std.specs.List.{list_all};
 ghost use Rattle.bc_solid.specs.Meshes.{is_near_place, corner_count};

@@ -1,3 +1,5 @@
+//! A closed mesh that is checked: how many faces it has, and the corners and the plane of each. `mesh_check` makes one
+//! of a mesh as it is read, and `join` one of two.
 ghost use Rattle.std.specs.Prelude.{◌≡◌, ◌≤◌, ◌<◌, ◌^◌, length, slice_get, Some};
 ghost use Rattle.bc_num.specs.Sizes.{AreCoords3};
 ghost use Rattle.bc_space.specs.Planes.{IsSizedPlane};

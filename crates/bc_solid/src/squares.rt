@@ -1,3 +1,4 @@
+//! The squared distance of two places of the plane, which the check of arcs and the crates above have in common.
 ghost use Rattle.std.specs.Prelude.{◌≡◌};
 ghost use Rattle.bc_algebra.specs.Within.{IsWithin};
 ghost use Rattle.bc_num.specs.Measures.{square_between};

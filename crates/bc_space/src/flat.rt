@@ -1,3 +1,5 @@
+//! The plane as a space: its mediants, the points where two lines meet by Cramer's rule, and the four walls of a box.
+//! The proofs of its laws are in `specs/Laws`; space is in `solid`.
 ghost use Rattle.std.specs.Prelude.{◌≡◌, ◌-◌, ◌^◌, ◌-ℤ◌, ◌*ℤ◌, [], ◌∷◌, Some};
 ghost use Rattle.bc_algebra.specs.Within.{IsWithin};
 ghost use Rattle.bc_space.specs.Lines.{IsSizedLine};

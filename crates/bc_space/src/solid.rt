@@ -1,3 +1,5 @@
+//! Space as a space of planes: its mediants, the points where three planes meet by Cramer's rule, and the six walls of
+//! a box. The proofs of its laws are in `specs/Laws`; the plane is in `flat`.
 ghost use Rattle.std.specs.Prelude.{◌≡◌, ◌-◌, ◌^◌, ◌-ℤ◌, ◌*ℤ◌, [], ◌∷◌};
 ghost use Rattle.bc_algebra.specs.Within.{IsWithin};
 ghost use Rattle.bc_space.specs.Planes.{IsSizedPlane};

@@ -1,3 +1,5 @@
+//! What the plane and space have in common: points, half-spaces and boxes, what is asked of them, and the laws that
+//! the answers keep. The plane is in `flat`, space in `solid`, and the laws are stated in `specs/Laws`.
 ghost use Rattle.std.specs.Prelude.{◌≡◌, ℕ, List, ◌*◌, ◌<◌, ◌↔◌, length, IsTrue, Option, Some, slice_get};
 ghost use Rattle.std.specs.List.{All};
 

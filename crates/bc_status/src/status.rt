@@ -1,3 +1,5 @@
+//! How a run of the program ended, why it was refused, and its exit status. `reporting` has the line that is written
+//! of a status.
 ghost use Rattle.std.specs.Prelude.{◌≡◌};
 ghost use Rattle.bc_status.specs.Status.{code_of};
 

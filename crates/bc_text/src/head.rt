@@ -102,6 +102,11 @@ fn put_mark<K: Sink>(pen: &mut Pen<K>, mark: Mark)
             put_spot(pen, spot);
         }
         Mark::OutUndecided => pen.put(b"out undecided"),
+        Mark::Needs(spot) => {
+            pen.put(b"needs ");
+            put_spot(pen, spot);
+        }
+        Mark::NeedsUndecided => pen.put(b"needs undecided"),
     }
 }
 

@@ -1,3 +1,6 @@
+//! Covers of masks by terms: small ones, one where the choice of the next bit counts, one with an idle term, and rules
+//! that are found again from masks in `hidden`. Lists of places are tested too.
+
 mod hidden;
 
 use bc_cover::*;

@@ -1,3 +1,5 @@
+//! Factored trees of terms over four strips, each written in letters: what is shared, what is chosen among equals, and
+//! groups in groups.
 ghost use Rattle.std.specs.Prelude.{◌<◌, ◌^◌, All, IsTrue};
 
 use bc_cover::{Blocks, Term};

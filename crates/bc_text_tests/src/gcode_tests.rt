@@ -1,3 +1,5 @@
+//! Contour texts that are refused, each with its first fault, and contour texts that are read, each with the elements
+//! that its contours begin with.
 use bc_gcode::*;
 use bc_num::V2;
 use bc_solid::Element;

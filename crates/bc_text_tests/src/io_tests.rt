@@ -1,3 +1,5 @@
+//! Sources read to their end, their limit or a failed call, and pieces put to sinks whole or in part; then a reader
+//! and a writer of `std` in the place of both.
 use bc_io::*;
 use std::alloc::Global;
 use std::io::{self, Read, Write};

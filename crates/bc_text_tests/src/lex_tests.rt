@@ -1,3 +1,4 @@
+//! Texts cut into lines, lines into words of contours or words between blanks, and texts into the tokens of CSG.
 use bc_lex::*;
 use std::test::Fail;
 

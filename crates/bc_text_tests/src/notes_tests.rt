@@ -1,3 +1,4 @@
+//! The notes of one disc and of a tetrahedron, and which point a note names where several would do or a mask has none.
 use bc_cover::cover;
 use bc_notes::*;
 use bc_num::{P2, P3};

@@ -1,3 +1,5 @@
+//! OFF texts that are refused, each with its first fault, and OFF texts that are read, each with how many vertices and
+//! faces it says and the last of both.
 use bc_num::V3;
 use bc_off::{OffFault, read_off};
 use std::test::Fail;

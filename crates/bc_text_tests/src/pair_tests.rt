@@ -1,3 +1,4 @@
+//! Joined texts with their two parts, and texts without a line that separates.
 use bc_pair::*;
 
 // Joined texts, each with its two parts and the number of the line between them.

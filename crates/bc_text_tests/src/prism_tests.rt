@@ -1,3 +1,5 @@
+//! How many sections a text has or its first fault, up to the limit of sections, and what each section has; then the
+//! text of layers, through a buffer of three bytes and with a write that fails.
 ghost use Rattle.std.specs.Prelude.{All, IfOk, OnOk};
 ghost use Rattle.bc_prism.specs.Prisms.{IsLayer};
 

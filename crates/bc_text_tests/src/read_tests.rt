@@ -1,3 +1,5 @@
+//! CSG texts that are refused, each with its first fault; texts that are read and printed again, the same but for
+//! their notes; texts whose axis leaves come out in their short form; and operators nested to the limit.
 ghost use Rattle.std.specs.Prelude.{◌≤◌, ◌^◌, length};
 
 use bc_io::MemSink;

@@ -1,3 +1,5 @@
+//! The texts of trees against texts written by hand: with a head and notes, through buffers of several sizes, at a
+//! depth, with a write that fails, and without a box.
 ghost use Rattle.std.specs.Prelude.{◌≤◌, ◌<◌, IfOk};
 ghost use Rattle.bc_tree.specs.Shape.{shape, AllLeaves, depth};
 ghost use Rattle.bc_tree.specs.Leaves.{IsLeaf};
@@ -396,6 +398,31 @@ fn without_a_box(rt: HostRuntime) -> Result<(), Fail> {
     assert_eq!(rt;
         out.held(),
         b"// bcsg 2 contour\ntranslate([-8188,-8187,0]) square([16384,8192]);\n".as_slice()
+    );
+    Ok(())
+}
+
+#[test]
+fn what_a_leaf_is_needed_for(rt: HostRuntime) -> Result<(), Fail> {
+    let alloc = rt.alloc();
+    let left = Tree::Leaf(strip(V2 { x: 4, y: 5 }, V2 { x: -1, y: 0 })?);
+    let told = [Note {
+        place: 0,
+        mark: Mark::Needs(flat(7, 11, 2)?),
+    }];
+    let out = text_of(alloc, &left, &Head::Plain { flat: true }, &told)?;
+    assert_eq!(rt;
+        out.held(),
+        b"// bcsg 2 contour\n// needs 7 11 2\ntranslate([-8188,-8187,0]) square([16384,8192]);\n".as_slice()
+    );
+    let untold = [Note {
+        place: 0,
+        mark: Mark::NeedsUndecided,
+    }];
+    let out = text_of(alloc, &left, &Head::Plain { flat: true }, &untold)?;
+    assert_eq!(rt;
+        out.held(),
+        b"// bcsg 2 contour\n// needs undecided\ntranslate([-8188,-8187,0]) square([16384,8192]);\n".as_slice()
     );
     Ok(())
 }

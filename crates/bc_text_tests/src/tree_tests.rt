@@ -1,3 +1,4 @@
+//! Points inside, outside and on the edge of a tetrahedron, which frames there are, and points at the ends of slabs.
 ghost use Rattle.std.specs.Prelude.{IfOk};
 ghost use Rattle.bc_tree.specs.Shape.{shape, AllLeaves};
 ghost use Rattle.bc_tree.specs.Leaves.{IsLeaf};

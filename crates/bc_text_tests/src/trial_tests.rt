@@ -1,3 +1,5 @@
+//! The first trial texts byte for byte; and how many faces, planes, elements, lines and discs trial texts have once
+//! they are read, from the least to the greatest.
 ghost use Rattle.std.specs.Prelude.{◌≤◌};
 
 use bc_gcode::read_contours;

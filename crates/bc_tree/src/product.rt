@@ -1,3 +1,5 @@
+//! A product of half-spaces by two masks, which is what a term says without the places of masks that it keeps. `build`
+//! makes its tree.
 ghost use Rattle.std.specs.Prelude.{◌≡◌};
 ghost use Rattle.bc_tree.specs.Cuts.{product_of};
 
