@@ -7,19 +7,20 @@ from math import isqrt
 from typing import Callable, NamedTuple
 
 from .answers import cover, formula
-from .csg import read_tree
+from .csg import OPERATORS, read_tree
 from .formulas import tree_of
 from .making import Dice, contour_text, contours, mesh, mesh_text, solid
-from .meshes import Face, edges_of
+from .meshes import edges_of
 from .requests import read_boundary
 from .setting import Setting
 from .tables import Boundary
-from .texts import BOUNDARY_BYTES, JOINED_BYTES, Refusal
+from .texts import BOUNDARY_BYTES, Refusal
 from .trees import Leaf, Node, Tree, amounts, layout, leaf_words, leaves_of
 from .trials import MOST_STEPS
 from .vectors import Numbers
 
 KINDS = ("off", "contour")
+TOKEN = re.compile(r"[A-Za-z_]+|-?[0-9.]+|//.*|\s+|.")
 
 
 class Case(NamedTuple):
@@ -29,8 +30,31 @@ class Case(NamedTuple):
     data: bytes
 
 
-def broken(data: bytes, dice: Dice) -> bytes:
-    """Bytes taken out, put in, doubled, or changed."""
+def with_fault(text: str, kind: str, dice: Dice) -> str:
+    """A text with a line taken out, doubled or put in, or with a number or another token exchanged."""
+    roll = dice.randint(0, 9)
+    lines, tokens = text.split("\n"), TOKEN.findall(text)
+    at = dice.randrange(len(lines))
+    if roll < 5 or not tokens:
+        lines[at : at + 1] = [[], [lines[at]] * 2, [dice.piece(f"{kind}-lines"), lines[at]]][min(roll, 2)]
+        return "\n".join(lines)
+    numbers = [at for at, token in enumerate(tokens) if token[-1].isdigit()]
+    if roll < 8 and numbers:
+        tokens[dice.choice(numbers)] = dice.piece(f"{kind}-numbers")
+    else:
+        tokens[dice.randrange(len(tokens))] = dice.piece(f"{kind}-words")
+    return "".join(tokens)
+
+
+def spoiled(data: bytes, kind: str, dice: Dice) -> bytes:
+    """A text with a fault, with bytes taken out, put in, doubled or changed, cut, very long, or any bytes."""
+    roll = dice.randint(0, 99)
+    if roll < 70:
+        return with_fault(data.decode(), kind, dice).encode()
+    if roll == 99:
+        return dice.randbytes(dice.randint(0, 99))
+    if roll == 98:
+        return data + b" " * (BOUNDARY_BYTES + dice.randint(0, 1) - len(data))
     for _ in range(dice.randint(1, 3)):
         at = dice.randint(0, len(data))
         end = min(len(data), at + dice.choice((1, 1, 2, 9)))
@@ -40,95 +64,27 @@ def broken(data: bytes, dice: Dice) -> bytes:
     return data[: dice.randint(0, len(data))] if dice.odds(10) else data
 
 
-def worse_contours(data: bytes, dice: Dice) -> bytes:
-    """A text of contours with another centre of an arc, a fault put in, or a line taken out."""
-    text = data.decode()
-    kind = dice.randint(0, 9)
-    if kind == 0:
-        return re.sub("[Ii].*", "I0 J0", text, count=1).encode()
-    if kind < 3:
-        return re.sub(r"[Ii](-?\d+)", lambda found: f"I{int(found[1]) + 1}", text, count=1).encode()
-    lines = text.split("\n")
-    at = dice.randrange(len(lines))
-    if kind == 3:
-        del lines[at]
-    elif kind < 7:
-        lines.insert(at, dice.piece("contour-blocks"))
-    else:
-        lines[at] += " " + dice.piece("contour-words")
-    return "\n".join(lines).encode()
+def boundary_text(kind: str, dice: Dice, faulty: int = 25) -> bytes:
+    """The text of a boundary, so many times in a hundred at fault in some way."""
+    data = contour_text(contours(dice), dice) if kind == "contour" else mesh_text(mesh(dice), dice)
+    return spoiled(data, kind, dice) if dice.odds(faulty) else data
 
 
-def worse_face(face: Face, dice: Dice) -> Face:
-    """A face with a corner twice, on one line, bent, or with a corner more."""
-    (a, b, c), (d, e, f), (x, y, z) = face[0], face[1], face[-1]
-    return dice.choice((
-        [*face, face[-1]],
-        [*face, face[0]],
-        [face[0], face[1], face[dice.randrange(2)]],
-        [*face[:-1], (x, y + 1, z + 1)],
-        [face[0], (2 * d - a, 2 * e - b, 2 * f - c), *face[1:]],
-    ))
-
-
-def worse_mesh(faces: list[Face], dice: Dice) -> bytes:
-    """The text of a mesh that is at fault in its faces or in its words."""
-    faces = [*faces] or [[(0, 0, 0), (1, 0, 0), (0, 1, 0)]]
-    at = dice.randrange(len(faces))
-    kind = dice.randint(0, 8)
-    if kind < 6:
-        faces[at : at + 1] = [] if kind == 0 else [faces[at]] * 2 if kind == 1 else [worse_face(faces[at], dice)]
-    text = mesh_text(faces, dice).decode()
-    if kind == 6:
-        return (text.rstrip("\n") + dice.piece("mesh-ends")).encode()
-    if kind == 7:
-        return re.sub(r"\d+ \d+", dice.piece("mesh-counts"), text, count=1).encode()
-    words = re.split(r"([ \t\r\n]+)", text)
-    if kind == 8:
-        words[2 * dice.randrange(len(words) // 2 + 1)] = dice.piece("mesh-words")
-    return "".join(words).encode()
-
-
-def padded(data: bytes, most: int, dice: Dice) -> bytes:
-    """A text as long as it may be, or a byte longer."""
-    return data + (b" " * (most + dice.randint(0, 1) - len(data)))
-
-
-def boundary_text(kind: str, dice: Dice, lawful: bool = False) -> bytes:
-    """The text of a boundary, in one of four at fault in some way."""
-    fault = 0 if lawful else dice.randint(0, 99)
-    whole = contours(dice) if kind == "contour" else []
-    faces = mesh(dice) if kind == "off" else []
-    data = contour_text(whole, dice) if kind == "contour" else mesh_text(faces, dice)
-    if fault < 75:
-        return data
-    if fault < 92:
-        return worse_contours(data, dice) if kind == "contour" else worse_mesh(faces, dice)
-    if fault < 98:
-        return broken(data, dice)
-    return dice.randbytes(dice.randint(0, 99)) if dice.odds(85) else padded(data, BOUNDARY_BYTES, dice)
-
-
-def point_words(dice: Dice, near: list[int]) -> list[str]:
-    """The words of a point, mostly near some numbers, at times past the bounds."""
+def point_words(dice: Dice, data: bytes) -> list[str]:
+    """The words of a point, mostly near the small numbers of a text and their sums, at times past the bounds."""
+    found = [int(word) for word in re.findall(rb"-?[0-9]+", data[:4000]) if len(word) < 6]
+    near = [0, 5, *found, *(x + y for x, y in zip(found, found[3:]))]
     w = dice.choice((1, 1, 1, 2, 3, 4, 7, 1 << 20, 1 << 40))
-    numbers = [dice.choice(near or [0]) * w + dice.choice((0, 0, 0, 1, -1, dice.randint(-w, w))) for _ in range(3)]
+    numbers = [dice.choice(near) * w + dice.choice((0, 0, 0, 1, -1, dice.randint(-w, w))) for _ in range(3)]
     roll = dice.randint(0, 99)
     if roll < 5:
         numbers[dice.randrange(3)] = dice.choice((1, -1)) * ((1 << 60) + dice.randint(-1, 1))
-    if roll == 5:
-        w = (1 << 40) + dice.randint(-1, 1)
-    words = [str(number) for number in [*numbers, w]]
+    words = [str(number) for number in [*numbers, (1 << 40) + dice.randint(-1, 1) if roll == 5 else w]]
     if roll == 6:
         words[dice.randrange(4)] = dice.piece("point-words")
     if 10 < roll < 16:
         words = [word.replace("-", "-00") if word.startswith("-") else "0" + word for word in words]
     return words
-
-
-def numbers_in(data: bytes) -> list[int]:
-    """The small numbers of a text."""
-    return [int(word) for word in re.findall(rb"-?[0-9]+", data[:4000]) if len(word) < 6]
 
 
 def near_edge(kind: str, data: bytes, dice: Dice) -> list[str]:
@@ -152,7 +108,7 @@ def side_case(dice: Dice) -> Case:
     """A case of `side`: near corners, so that columns and edges are met."""
     kind = dice.choice(KINDS)
     data = boundary_text(kind, dice)
-    point = (near_edge(kind, data, dice) if dice.odds(50) else []) or point_words(dice, numbers_in(data))
+    point = (near_edge(kind, data, dice) if dice.odds(50) else []) or point_words(dice, data)
     if kind == "contour" and dice.odds(92):
         point[2] = dice.choice(("0", "-0"))
     return Case(["side", kind, *point], data)
@@ -175,10 +131,10 @@ def leaf(flat: bool, dice: Dice, block: Leaf | None = None) -> Leaf:
 
 
 def tree(flat: bool, dice: Dice, depth: int = 3, block: Leaf | None = None) -> Tree:
-    """A tree of leaves of one kind."""
+    """A tree of leaves of one kind, or seldom of both."""
     if depth == 0 or dice.odds(30):
-        return leaf(flat, dice, block)
-    operator = dice.choice(("union", "intersection", "difference"))
+        return leaf(flat != dice.odds(1), dice, block)
+    operator = dice.choice(OPERATORS)
     least = 0 if operator == "union" and dice.odds(10) else 1
     return Node(operator, tuple(tree(flat, dice, depth - 1, block) for _ in range(dice.randint(least, 3))))
 
@@ -191,23 +147,6 @@ def spelled_tree(node: Tree, dice: Dice) -> str:
         return gap + (words.replace(",", " ,\n") if dice.odds(8) else words)
     kids = "".join(spelled_tree(kid, dice) for kid in node.kids)
     return f"{gap}{node.operator}(){gap}{{{kids}{gap}}}"
-
-
-def worse_tree(text: str, dice: Dice) -> str:
-    """A CSG text with a token changed, nested too deeply, or with a leaf of perhaps the other kind."""
-    kind = dice.randint(0, 9)
-    if kind == 0:
-        depth = dice.choice((61, 62, 63, 64, 65))
-        return f"{dice.choice(('union', 'union', 'difference'))}(){{" * depth + text + "}" * depth
-    if kind == 1:
-        return "union(){" + text + leaf_words(leaf(dice.odds(50), dice)) + ";}"
-    tokens = re.findall(r"[A-Za-z_0-9]+|-?[0-9]+|//.*|[^A-Za-z_0-9]", text)
-    numbers = [at for at, token in enumerate(tokens) if re.fullmatch(r"-?[0-9]+", token)]
-    if kind < 6 and numbers:
-        tokens[dice.choice(numbers)] = dice.piece("tree-numbers")
-    else:
-        tokens[dice.randrange(len(tokens))] = dice.piece("tree-words")
-    return "".join(tokens)
 
 
 def small_setting(kind: str, dice: Dice) -> Setting:
@@ -225,14 +164,10 @@ def small_setting(kind: str, dice: Dice) -> Setting:
 def csg_text(dice: Dice) -> bytes:
     """A CSG text, in one of four at fault."""
     if dice.odds(12):
-        lines = formula(small_setting(dice.choice(KINDS), dice))[1].decode().split("\n")
-        if dice.odds(50):
-            del lines[dice.randrange(len(lines))]
-        text = "\n".join(lines)
+        data = formula(small_setting(dice.choice(KINDS), dice))[1]
     else:
-        text = spelled_tree(tree(dice.odds(50), dice), dice) + dice.choice(("", "\n", " // end", "//"))
-    data = (worse_tree(text, dice) if text and dice.odds(22) else text).encode()
-    return broken(data, dice) if dice.odds(7) else data
+        data = (spelled_tree(tree(dice.odds(50), dice), dice) + dice.choice(("", "\n", " // end", "//"))).encode()
+    return spoiled(data, "tree", dice) if dice.odds(26) else data
 
 
 def near_leaf(data: bytes, dice: Dice) -> list[str]:
@@ -262,8 +197,7 @@ def near_leaf(data: bytes, dice: Dice) -> list[str]:
 def ask_case(dice: Dice) -> Case:
     """A case of `ask`: points at corners and edges of leaves too."""
     data = csg_text(dice)
-    near = numbers_in(data)
-    words = point_words(dice, near + [x + y for x, y in zip(near, near[3:])] + [0, 5])
+    words = point_words(dice, data)
     words[2] = dice.choice(("0", "0", words[2]))
     return Case(["ask", *((near_leaf(data, dice) if dice.odds(40) else []) or words)], data)
 
@@ -271,29 +205,28 @@ def ask_case(dice: Dice) -> Case:
 def edited(node: Tree, dice: Dice) -> Tree:
     """A tree with a leaf moved or turned, a child taken out or given twice, or an operator exchanged."""
     if isinstance(node, Leaf):
-        if node.kind != "slab":
-            return node
         at, step = dice.randrange(3), dice.choice((-2, -1, 1, 2))
         o = tuple(x + step * (k == at) for k, x in enumerate(node.origin))
-        return Leaf("slab", o + tuple(-x if step == 2 else x for x in node.rest))
-    kids = list(node.kids)
-    at = dice.randrange(len(kids)) if kids else 0
-    roll = dice.randint(0, 9)
-    if kids and (roll < 7 or len(kids) == 1):
-        kids[at] = edited(kids[at], dice)
-    elif kids and roll == 7:
-        del kids[at]
-    elif kids and roll == 8:
-        kids.append(kids[at])
+        return node if node.kind != "slab" else Leaf("slab", o + tuple(-x if step == 2 else x for x in node.rest))
+    if not node.kids:
+        return node
+    operator, kids = node
+    at, roll = dice.randrange(len(kids)), dice.randint(0, 9)
+    if roll < 7:
+        kids = (*kids[:at], edited(kids[at], dice), *kids[at + 1 :])
+    elif roll == 7 and len(kids) > 1:
+        kids = kids[:at] + kids[at + 1 :]
+    elif roll == 8:
+        kids += (kids[at],)
     else:
-        return Node(dice.choice(("union", "difference", "intersection")), node.kids) if kids else node
-    return Node(node.operator, tuple(kids))
+        operator = dice.choice(OPERATORS)
+    return Node(operator, kids)
 
 
 def audit_case(dice: Dice) -> Case:
     """A case of `audit`: the text of the mesh, edited, or a tree of other half-spaces."""
-    faces = mesh(dice) if dice.odds(30) else solid(dice)
-    first = worse_mesh(faces, dice) if dice.odds(8) else mesh_text(faces, dice)
+    first = mesh_text(mesh(dice) if dice.odds(30) else solid(dice), dice)
+    first = spoiled(first, "off", dice) if dice.odds(8) else first
     try:
         setting = Setting((read_boundary("off", first),))
     except Refusal:
@@ -302,11 +235,11 @@ def audit_case(dice: Dice) -> Case:
         node = tree_of(cover(setting.free, len(setting.leaves)), setting)
         for _ in range(dice.choice((0, 0, 1, 1, 2, 3))):
             node = edited(node, dice)
-        text = layout(setting.head(), node).decode() if dice.odds(50) else spelled_tree(node, dice)
+        text = layout(setting.head(), node) if dice.odds(50) else spelled_tree(node, dice).encode()
     else:
         block = setting.block if dice.odds(95) else Leaf("block", (0, 0, 0, 1, 1, 1))
-        text = spelled_tree(tree(dice.odds(4), dice, 3, block), dice)
-    return Case(["audit"], joined(first, (worse_tree(text, dice) if dice.odds(8) else text).encode(), dice))
+        text = spelled_tree(tree(dice.odds(4), dice, 3, block), dice).encode()
+    return Case(["audit"], joined(first, spoiled(text, "tree", dice) if dice.odds(8) else text, dice))
 
 
 def joined(first: bytes, second: bytes, dice: Dice) -> bytes:
@@ -321,27 +254,23 @@ def joined(first: bytes, second: bytes, dice: Dice) -> bytes:
 def combine_case(dice: Dice) -> Case:
     """A case of `combine`: two boundaries that share half-spaces at times."""
     kind = dice.choice(KINDS)
-    first = boundary_text(kind, dice, dice.odds(60))
-    second = first if dice.odds(8) else boundary_text(kind, dice, dice.odds(60))
-    if dice.odds(1):
-        long = dice.choice((BOUNDARY_BYTES, BOUNDARY_BYTES, JOINED_BYTES))
-        first, second = (padded(first, long, dice), second) if dice.odds(50) else (first, padded(second, long, dice))
-    operation = dice.choice(("union", "intersection", "difference"))
-    return Case(["combine", operation, kind], joined(first, second, dice))
+    first = boundary_text(kind, dice, 10)
+    second = first if dice.odds(8) else boundary_text(kind, dice, 10)
+    return Case(["combine", dice.choice(("union", "intersection", "difference")), kind], joined(first, second, dice))
 
 
-def layers_text(dice: Dice) -> bytes:
-    """Sections of contours between heights, which seldom overlap."""
-    low, result = dice.randint(-30, 10), b"# layers\n" if dice.odds(10) else b""
+def layers_case(dice: Dice) -> Case:
+    """A case of `prism`: sections of contours between heights, which seldom overlap."""
+    low, data = dice.randint(-30, 10), b"# layers\n" if dice.odds(10) else b""
     for _ in range(dice.choice((0, 1, 1, 2, 2, 3, 4))):
         high = low + dice.randint(1, 9)
         line = f"LAYER {low} {high}" if high < 0 or dice.odds(50) else f"  LAYER\t{low}.0 +{high}"
         line = dice.piece("layer-lines") if dice.odds(6) else line
-        text = boundary_text("contour", dice, dice.odds(85))
-        result += (line + dice.choice(("", "", " # top", "\r")) + "\n").encode() + text
-        result += b"\n" if text and not text.endswith(b"\n") else b""
+        text = boundary_text("contour", dice, 5)
+        data += (line + dice.choice(("", "", " # top", "\r")) + "\n").encode() + text
+        data += b"\n" if text and not text.endswith(b"\n") else b""
         low = high + dice.choice((0, 0, 1, -1 if dice.odds(15) else 2))
-    return result[:-1] if dice.odds(10) else result
+    return Case(["prism"], data[:-1] if dice.odds(10) else data)
 
 
 def trial_case(dice: Dice) -> Case:
@@ -351,25 +280,21 @@ def trial_case(dice: Dice) -> Case:
     return Case(["trial", kind, dice.choice(("", "", "0", "00")) + str(steps)], b"")
 
 
-def plain_case(command: str) -> Callable[[Dice], Case]:
-    """The maker of cases of a command that takes one boundary."""
-
-    def make(dice: Dice) -> Case:
-        kind = dice.choice(KINDS)
-        return Case([command, kind], boundary_text(kind, dice))
-
-    return make
+def boundary_case(command: str, dice: Dice) -> Case:
+    """A case of a command that takes one boundary and no more words than its kind."""
+    kind = dice.choice(KINDS)
+    return Case([command, kind], boundary_text(kind, dice))
 
 
 MAKERS: dict[str, Callable[[Dice], Case]] = {
-    "convert": plain_case("convert"),
-    "factor": plain_case("factor"),
+    "convert": lambda dice: boundary_case("convert", dice),
+    "factor": lambda dice: boundary_case("factor", dice),
     "side": side_case,
     "ask": ask_case,
     "upgrade": lambda dice: Case(["upgrade"], csg_text(dice)),
     "audit": audit_case,
     "combine": combine_case,
-    "prism": lambda dice: Case(["prism"], layers_text(dice)),
+    "prism": layers_case,
     "trial": trial_case,
 }
 

@@ -229,6 +229,9 @@ def mesh(dice: Dice) -> list[Face]:
     faces = [face for _ in range(dice.choice((1, 1, 1, 1, 2, 2))) for face in solid(dice)]
     if roll < 10:
         faces += [list(reversed(face)) for face in faces]
+    elif roll < 16:
+        at = dice.randrange(len(faces))
+        faces[at : at + 1] = [faces[at]] * dice.choice((0, 0, 2))
     if dice.odds(30):
         faces = [[face[0], a, b] for face in faces for a, b in zip(face[1:], face[2:])]
     for at, face in enumerate(faces):
@@ -254,7 +257,7 @@ def mesh_text(faces: list[Face], dice: Dice) -> bytes:
     for face in faces:
         lines.append(" ".join(map(str, [len(face), *(dice.choice(where[corner]) for corner in face)])))
         if loose and dice.odds(20):
-            lines[-1] += dice.piece("mesh-idle")
+            lines[-1] += dice.piece("off-idle")
     text = "\n".join(lines)
     if loose:
         text = text.replace(" ", dice.choice((" ", "  ", "\t", " \t ")))
