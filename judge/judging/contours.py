@@ -3,6 +3,7 @@
 from __future__ import annotations
 
 import re
+from itertools import count
 from typing import Iterator, NamedTuple
 
 from .texts import BLANKS, NUMBER, REACH, Refusal, at_word, lines_of, whole_value
@@ -12,7 +13,7 @@ Place = tuple[int, int]
 IGNORED_G = {17, 20, 21, 40, 49, 54, 90, 94}
 MODES = {0, 1, 2, 3, 80}
 MOST_ELEMENTS = 512
-WORD = re.compile(rb"([A-Za-z])[ \t\r]*(" + NUMBER.pattern + rb")")
+PIECE = re.compile(rb"(?:[ \t\r]+|\([^)]*\))*+(?:([A-Za-z])[ \t\r]*(" + NUMBER.pattern + rb")|;|\Z)")
 
 
 class Element(NamedTuple):
@@ -44,22 +45,17 @@ class Word(NamedTuple):
 
 def words_of(line: bytes, at: int) -> Iterator[Word]:
     """The words of a line from left to right, up to bytes that begin no word."""
-    place, nth = 0, 0
     if line.lstrip(BLANKS).startswith(b"%"):
         return
-    while place < len(line) and line[place : place + 1] != b";":
-        byte = line[place : place + 1]
-        if byte in BLANKS:
-            place += 1
-        elif byte == b"(" and line.find(b")", place) >= 0:
-            place = line.find(b")", place) + 1
-        else:
-            nth += 1
-            word = WORD.match(line, place)
-            if word is None:
-                raise at_word("BadWord", at, nth)
-            yield Word(word.group(1).decode().upper(), word.group(2), nth)
-            place = word.end()
+    place = 0
+    for nth in count(1):
+        piece = PIECE.match(line, place)
+        if piece is None:
+            raise at_word("BadWord", at, nth)
+        if piece[1] is None:
+            return
+        yield Word(piece[1].decode().upper(), piece[2], nth)
+        place = piece.end()
 
 
 class Block:

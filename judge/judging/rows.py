@@ -3,14 +3,28 @@
 from __future__ import annotations
 
 import re
-from pathlib import Path
+from itertools import chain
 from typing import Iterator, NamedTuple
 
 from .cases import Case
+from .making import FOLDER
 from .verdicts import Run
 
-FOLDER = Path(__file__).resolve().parent.parent / "cases"
 STATUSES = {"usage:": 3, "refused:": 2, "out": 6}
+# Where a refused text of `convert contour`, `convert off` or `upgrade` stands elsewhere: before and after it, and how the
+# line of its fault begins there.
+ELSEWHERE = {
+    "convert contour": (
+        ("factor contour", b"", b"", ""), ("side contour 0 0 0 1", b"", b"", ""),
+        ("combine union contour", b"", b"====\n", ""), ("combine difference contour", b"====\n", b"", "part 2 "),
+        ("prism", b"LAYER 0 1\n", b"", "layer 0 "), ("prism", b"LAYER 0 1\nLAYER 1 2\n", b"LAYER 2 3\n", "layer 1 "),
+    ),
+    "convert off": (
+        ("factor off", b"", b"", ""), ("side off 0 0 0 1", b"", b"", ""), ("combine union off", b"", b"====\nOFF 0 0 0\n", ""),
+        ("combine intersection off", b"OFF 0 0 0\n====\n", b"", "part 2 "), ("audit", b"", b"====\nunion(){}", ""),
+    ),
+    "upgrade": (("ask 0 0 0 1", b"", b"", ""), ("audit", b"OFF 0 0 0\n====\n", b"", "part 2 ")),
+}
 
 
 class Row(NamedTuple):
@@ -49,22 +63,42 @@ def table(name: str) -> Iterator[tuple[str, list[str]]]:
             yield f"{name} {number}", line.split(" | ")
 
 
+def again(found: re.Match[str]) -> str:
+    """A text that stands so many times, with the number of the time in the place of each `@`, or so much more."""
+    text, times = found[1], int(found[2])
+    if "@" not in text:
+        return text * times
+    return "".join(re.sub(r"@([+-]\d+)?", lambda sign: str(k + int(sign[1] or 0)), text) for k in range(times))
+
+
 def unfolded(text: str) -> bytes:
-    """The bytes of an input in a table: ` / ` is LF, `<..*3>` stands three times, with the number of the time for `@`."""
-
-    def again(found: re.Match[str]) -> str:
-        number = re.compile(r"@([+-]\d+)?")
-        return "".join(number.sub(lambda sign: str(k + int(sign[1] or 0)), found[1]) for k in range(int(found[2])))
-
-    plain = re.sub(r"<([^<>]*)\*(\d+)>", again, re.sub(r" /( |$)", "\n", text))
-    return plain.encode().decode("unicode_escape").encode("latin-1")
+    """The bytes of a text in a table: ` / ` is LF, `\\x41` a byte by its number, and `<..*3>` stands three times."""
+    plain = re.sub(r" /( |$)", "\n", text).encode().decode("unicode_escape")
+    return re.sub(r"<([^<>]*)\*(\d+)>", again, plain).encode("latin-1")
 
 
 def lines() -> Iterator[Row]:
-    """The rows of the table: command lines parted by `;`, the input, and the one line of the answer."""
-    for name, (commands, text, line) in table("lines"):
-        for words in commands.split(";"):
-            yield Row(f"{name} {words.split()[0]}", Case(words.split(), unfolded(text)), told(line), "free" if line == "free" else "exactly")
+    """The rows of the tables: command lines parted by `;`, the input, and the one line of the answer."""
+    for name, (commands, text, line) in chain(table("lines"), table("limits")):
+        for nth, words in enumerate(commands.split(";")):
+            case = Case(unfolded(words).decode().split(), unfolded(text))
+            yield Row(f"{name} {nth}", case, told(line), "free" if line == "free" else "exactly")
+
+
+def elsewhere() -> Iterator[Row]:
+    """The refused texts of the tables as other commands read them: alone, as a part, or as a section."""
+    for row in lines():
+        why = row.run.err.removeprefix(b"refused: ").decode()
+        is_limit = why.startswith(("TooManyLines", "TooManyDiscs", "TooManyPlanes"))
+        places = ELSEWHERE.get(" ".join(row.case.words), ()) if row.run.status == 2 and len(row.case.data) < 9999 else ()
+        for nth, (words, before, after, prefix) in enumerate(places):
+            if is_limit and words.startswith(("side", "audit")):
+                continue
+            middle = row.case.data
+            gap = b"\n" if after and middle and not middle.endswith(b"\n") else b""
+            prefix = "" if is_limit and words.startswith("combine") else prefix
+            case = Case(words.split(), before + middle + gap + after)
+            yield Row(f"{row.name} elsewhere {nth}", case, told(f"refused: {prefix}{why.rstrip()}"))
 
 
 def cuts() -> Iterator[Row]:
@@ -95,4 +129,4 @@ def examples() -> Iterator[Row]:
 
 def all_rows() -> list[Row]:
     """All worked rows."""
-    return [*lines(), *cuts(), *files(), *examples()]
+    return [*lines(), *elsewhere(), *cuts(), *files(), *examples()]
