@@ -5,8 +5,8 @@ from __future__ import annotations
 import random
 from functools import reduce
 
-from .formulas import Term, Wrong, check_meaning, check_needed, check_points, leaves_at, plain_tree
-from .formulas import product_of, read_laid_out, side_of
+from .formulas import Term, Wrong, check_meaning, check_needed, check_points, leaves_at, plain_tree, products
+from .formulas import read_laid_out
 from .setting import Setting
 from .trees import Node, Tree
 
@@ -46,24 +46,6 @@ def factored(terms: list[Term], setting: Setting, level: int = 0) -> list[Tree]:
 def factored_tree(terms: list[Term], setting: Setting) -> Tree:
     """The one tree that the rule makes of all terms."""
     return Node("union", tuple(factored(terms, setting)))
-
-
-def products(tree: Tree, setting: Setting) -> list[Term]:
-    """The terms of a factored union, multiplied out."""
-    if not isinstance(tree, Node) or tree.operator != "union":
-        raise Wrong("a group has no union at its end")
-    result = []
-    for kid in tree.kids:
-        first = kid.kids[0] if isinstance(kid, Node) and kid.operator == "difference" else None
-        if not isinstance(kid, Node) or not isinstance(first, Node) or first.operator != "intersection":
-            raise Wrong("a child of a union is no difference of an intersection")
-        if first.kids[0] == setting.block:
-            result.append(product_of(kid, setting))
-        else:
-            taken, cut = side_of(first.kids[:-1], setting), side_of(kid.kids[1:], setting)
-            inner = products(first.kids[-1], setting)
-            result += [Term(term.taken | taken, term.cut | cut) for term in inner]
-    return result
 
 
 def check_factored(text: bytes, setting: Setting, count: int, dice: random.Random) -> None:

@@ -9,8 +9,8 @@ from typing import Callable, Iterator, NamedTuple
 from .answers import answer, cover, notes_of
 from .cases import Case
 from .csg import read_tree
-from .factored import factored_tree, products
-from .formulas import Term, tree_of
+from .factored import factored_tree
+from .formulas import Term, bits_of, products, tree_of
 from .requests import read_given
 from .rows import lines, table, told, unfolded
 from .setting import Setting
@@ -63,7 +63,7 @@ CHANGES: dict[str, Change] = {
     "reversed": lambda terms, _: terms[::-1],
     "signs exchanged": lambda terms, _: sorted(Term(term.cut, term.taken) for term in terms),
     "all dropped": lambda terms, _: [],
-    "a literal dropped": lambda terms, _: [terms[0].without(terms[0].literals()[0]), *terms[1:]],
+    "a literal dropped": lambda terms, _: [terms[0].without(bits_of(terms[0].taken)[0]), *terms[1:]],
     "an idle literal": idle_literal,
     "an idle term": idle_term,
     "one for each mask": lambda _, setting: sorted(

@@ -50,7 +50,7 @@ def summary(request: Request, setting: Setting, terms: list[Term], undecided: in
     flat, discs = map(len, setting.table)
     parts, inside = len(setting.every), sum(setting.every.values())
     counts = f"lines {flat}\ndiscs {discs}\ncandidates" if setting.is_flat else f"planes {flat}\ncells"
-    literals = sum(len(term.literals()) for term in terms)
+    literals = sum(term.taken.bit_count() + term.cut.bit_count() for term in terms)
     rest = f"terms {len(terms)}\nliterals {literals}\nundecided {undecided}\n"
     return f"trial {request.kind} {request.steps}\n{counts} {parts}\ninside {inside}\n{rest}".encode()
 

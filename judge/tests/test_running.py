@@ -5,6 +5,7 @@ import os
 import subprocess
 import sys
 import tempfile
+import time
 import unittest
 from pathlib import Path
 from typing import Iterator
@@ -51,12 +52,14 @@ class RunningTest(unittest.TestCase):
                     run_program(path, [], b"", 1)
 
     def test_runs_that_do_not_end_by_themselves(self) -> None:
+        deaf = "signal.signal(signal.SIGXFSZ, signal.SIG_IGN)"
         for body, seconds, told in (
             ("import time; time.sleep(60)", 0.5, "^did not end within 0.5 seconds and was stopped$"),
-            ("import os, time; os.close(1); os.close(2); time.sleep(60)", 0.5, "^closed its streams, did not end"),
-            ("import os, time; os.fork() or time.sleep(60)", 0.5, "^did not end within 0.5 seconds"),
-            ("import os\nwhile True: os.write(1, b'x' * 65536)", 60, "^wrote more than 67108864 bytes"),
-            ("import os\nwhile True: os.write(2, b'x' * 65536)", 60, "^wrote more than 67108864 bytes"),
+            ("import os, time; os.close(1); os.close(2); time.sleep(60)", 0.5, "^did not end within 0.5 seconds"),
+            ("import os, time; os.fork() and time.sleep(60)", 0.5, "^did not end within 0.5 seconds"),
+            ("import os\nwhile True: os.write(1, b'x' * 65536)", 60, "^wrote 67108864 bytes or more, and was stopped"),
+            ("import os\nwhile True: os.write(2, b'x' * 65536)", 60, "^wrote 67108864 bytes or more, and was stopped"),
+            (f"import os, signal; {deaf}\nwhile True:\n try: os.write(1, b'x' * 65536)\n except OSError: pass", 2, "^did"),
             ("import os; os.kill(os.getpid(), 11)", 60, "^crashed: ended by SIGSEGV, with b''$"),
             ("import os; os.write(2, b'panic'); os.abort()", 60, "^crashed: ended by SIGABRT, with b'panic'$"),
         ):
@@ -76,6 +79,14 @@ class RunningTest(unittest.TestCase):
                 fault = verdict(["upgrade"], b"union(){}", run_program(path, ["upgrade"], b"union(){}", 60))
                 self.assertEqual(fault is None, told is None, fault)
                 self.assertIn(told or "", fault or "")
+
+    def test_what_a_program_starts_ends_with_it(self) -> None:
+        with tempfile.NamedTemporaryFile() as file:
+            body = f"import os, time\nif not os.fork():\n time.sleep(1); open({file.name!r}, 'w').write('late')"
+            with program(body) as path:
+                self.assertEqual(run_program(path, [], b"", 60).status, 0)
+            time.sleep(1.2)
+            self.assertEqual(file.read(), b"")
 
     def test_bytes_that_are_read(self) -> None:
         for words, data, count in (
