@@ -1,7 +1,5 @@
 """Lawful answers, made slowly from the definitions: for the judge's own tests and to edit in generated cases."""
 
-from __future__ import annotations
-
 from typing import Iterable, Sequence
 
 from .audits import Audit

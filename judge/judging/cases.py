@@ -1,7 +1,5 @@
 """Cases for each command: words and bytes, valid, at fault in each way, at limits, and hostile."""
 
-from __future__ import annotations
-
 import re
 from math import isqrt
 from typing import Callable, NamedTuple

@@ -1,7 +1,5 @@
 """Cells of lines or planes in a box: from each vertex of the arrangement, the cells round it by their signs."""
 
-from __future__ import annotations
-
 from itertools import combinations
 from typing import Iterator
 

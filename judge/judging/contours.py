@@ -1,7 +1,5 @@
 """Contours: the words and blocks of a text, its first fault, and the check of closed contours."""
 
-from __future__ import annotations
-
 import re
 from itertools import count
 from typing import Iterator, NamedTuple

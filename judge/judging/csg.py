@@ -1,7 +1,5 @@
 """CSG text: its tokens, the tree that it spells, or its first fault."""
 
-from __future__ import annotations
-
 import re
 from typing import NamedTuple, NoReturn
 

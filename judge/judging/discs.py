@@ -1,7 +1,5 @@
 """Candidates of lines and discs: the dropping rules, the two further rules of lean ones, and samples."""
 
-from __future__ import annotations
-
 from itertools import combinations
 from typing import Iterator, NamedTuple
 

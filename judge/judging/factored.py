@@ -1,7 +1,5 @@
 """Factored formulas: the terms that a factored text says, and the one tree that the rule makes of them."""
 
-from __future__ import annotations
-
 import random
 from functools import reduce
 

@@ -1,7 +1,5 @@
 """Is a text the formula of a boundary? Its head, layout, normal form, order, meaning, needs and notes."""
 
-from __future__ import annotations
-
 import random
 import re
 from math import gcd

@@ -1,7 +1,5 @@
 """Random contours and meshes, valid and near the limits, and their texts in the many ways that they may be written."""
 
-from __future__ import annotations
-
 import random
 from pathlib import Path
 from typing import Callable, Sequence

@@ -1,7 +1,5 @@
 """Meshes: the rows of an OFF text, its first fault, and the check of closed meshes."""
 
-from __future__ import annotations
-
 from collections import Counter
 from itertools import combinations
 from typing import NoReturn

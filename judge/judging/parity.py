@@ -1,7 +1,5 @@
 """Whether the ray straight down from a point crosses a boundary an odd number of times, as the definitions count."""
 
-from __future__ import annotations
-
 from typing import Callable
 
 from .contours import Element, Place

@@ -1,7 +1,5 @@
 """Wrong answers, planted: right ones of the table `cases/plants` spoiled, each of which the judge has to find."""
 
-from __future__ import annotations
-
 import re
 from itertools import combinations
 from typing import Callable, Iterator, NamedTuple

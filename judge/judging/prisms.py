@@ -1,7 +1,5 @@
 """Layers as they are written: one for each section, with a tree for its contours and no notes."""
 
-from __future__ import annotations
-
 import random
 
 from .formulas import Wrong, check_bytes, check_formula

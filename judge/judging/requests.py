@@ -1,7 +1,5 @@
 """Command lines, the order of faults, and the boundaries that the bytes of each command say."""
 
-from __future__ import annotations
-
 import re
 from contextlib import contextmanager
 from typing import Callable, Iterator, NamedTuple, Sequence

@@ -1,7 +1,5 @@
 """Worked rows: files with the words, the input and the output of one run each, and a table of short ones."""
 
-from __future__ import annotations
-
 import re
 from itertools import chain
 from typing import Iterator, NamedTuple
@@ -11,20 +9,6 @@ from .making import FOLDER
 from .verdicts import Run
 
 STATUSES = {"usage:": 3, "refused:": 2, "out": 6}
-# Where a refused text of `convert contour`, `convert off` or `upgrade` stands elsewhere: before and after it, and how the
-# line of its fault begins there.
-ELSEWHERE = {
-    "convert contour": (
-        ("factor contour", b"", b"", ""), ("side contour 0 0 0 1", b"", b"", ""),
-        ("combine union contour", b"", b"====\n", ""), ("combine difference contour", b"====\n", b"", "part 2 "),
-        ("prism", b"LAYER 0 1\n", b"", "layer 0 "), ("prism", b"LAYER 0 1\nLAYER 1 2\n", b"LAYER 2 3\n", "layer 1 "),
-    ),
-    "convert off": (
-        ("factor off", b"", b"", ""), ("side off 0 0 0 1", b"", b"", ""), ("combine union off", b"", b"====\nOFF 0 0 0\n", ""),
-        ("combine intersection off", b"OFF 0 0 0\n====\n", b"", "part 2 "), ("audit", b"", b"====\nunion(){}", ""),
-    ),
-    "upgrade": (("ask 0 0 0 1", b"", b"", ""), ("audit", b"OFF 0 0 0\n====\n", b"", "part 2 ")),
-}
 
 
 class Row(NamedTuple):
@@ -86,19 +70,19 @@ def lines() -> Iterator[Row]:
 
 
 def elsewhere() -> Iterator[Row]:
-    """The refused texts of the tables as other commands read them: alone, as a part, or as a section."""
+    """The refused texts of the tables where other commands read them, by the table `elsewhere`."""
+    places = [fields for _, fields in table("elsewhere")]
     for row in lines():
-        why = row.run.err.removeprefix(b"refused: ").decode()
+        if row.run.status != 2 or len(row.case.data) > 9999:
+            continue
+        why, text = row.run.err.removeprefix(b"refused: ").decode().rstrip(), row.case.data
         is_limit = why.startswith(("TooManyLines", "TooManyDiscs", "TooManyPlanes"))
-        places = ELSEWHERE.get(" ".join(row.case.words), ()) if row.run.status == 2 and len(row.case.data) < 9999 else ()
-        for nth, (words, before, after, prefix) in enumerate(places):
-            if is_limit and words.startswith(("side", "audit")):
-                continue
-            middle = row.case.data
-            gap = b"\n" if after and middle and not middle.endswith(b"\n") else b""
-            prefix = "" if is_limit and words.startswith("combine") else prefix
-            case = Case(words.split(), before + middle + gap + after)
-            yield Row(f"{row.name} elsewhere {nth}", case, told(f"refused: {prefix}{why.rstrip()}"))
+        for words, other, before, after, prefix, limits in places:
+            if words == " ".join(row.case.words) and not (is_limit and limits == "none"):
+                gap = b"\n" if after and text and not text.endswith(b"\n") else b""
+                case = Case(other.split(), unfolded(before) + text + gap + unfolded(after))
+                line = why if prefix == "as it is" or (is_limit and limits == "of both") else f"{prefix} {why}"
+                yield Row(f"{row.name} as {other}", case, told(f"refused: {line}"))
 
 
 def cuts() -> Iterator[Row]:

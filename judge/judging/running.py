@@ -1,7 +1,5 @@
 """Runs a program on a case, whatever it does: it is stopped at a stated time and after so many bytes."""
 
-from __future__ import annotations
-
 import os
 import resource
 import signal

@@ -1,7 +1,5 @@
 """One or two boundaries with all that a text is judged by: half-spaces, masks with points, candidates, parities."""
 
-from __future__ import annotations
-
 from collections import Counter
 from functools import cached_property
 from typing import Callable, Sequence

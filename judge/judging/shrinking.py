@@ -1,7 +1,5 @@
 """Makes a case small that shows a difference: lines, words, bytes and faces are taken out while it still does."""
 
-from __future__ import annotations
-
 import re
 import time
 from typing import Callable, Iterator

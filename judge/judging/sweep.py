@@ -1,7 +1,5 @@
 """The masks of lines and discs that have a point, exactly: columns between the places where curves meet or turn."""
 
-from __future__ import annotations
-
 from fractions import Fraction
 from functools import cmp_to_key
 from itertools import combinations

@@ -1,7 +1,5 @@
 """Lines, words and numbers of a text, and how a refusal is told."""
 
-from __future__ import annotations
-
 import re
 from typing import Iterable
 

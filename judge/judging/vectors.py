@@ -1,7 +1,5 @@
 """Vectors of whole numbers, and rational points: numbers with their denominator last."""
 
-from __future__ import annotations
-
 from math import gcd
 from operator import mul
 from typing import Iterable, Sequence

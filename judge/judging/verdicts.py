@@ -1,7 +1,5 @@
 """Is a run of the program right? Its status, its line on standard error, and what it wrote."""
 
-from __future__ import annotations
-
 import random
 import re
 from typing import NamedTuple, Sequence
