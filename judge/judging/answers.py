@@ -16,7 +16,7 @@ from .verdicts import Run, forced, setting_of, summary
 
 
 def cover(masks: dict[int, bool], count: int) -> list[Term]:
-    """Terms that hold each odd mask and no even one, none of them idle in any part."""
+    """Terms that hold each odd mask and no even one, none of them redundant in any part."""
     even = [mask for mask, odd in masks.items() if not odd]
     terms: list[Term] = []
     for mask, odd in masks.items():

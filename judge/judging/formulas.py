@@ -150,7 +150,7 @@ def check_needed(terms: list[Term], masks: dict[int, bool]) -> None:
     """Each term alone holds an odd mask, and each literal keeps an even one out."""
     for at, bit, _ in elements_of(terms):
         if not any(shows(terms, at, bit, mask, odd) for mask, odd in masks.items()):
-            raise Wrong(f"{f'half-space {bit.bit_length() - 1} of ' if bit else ''}term {at} is idle")
+            raise Wrong(f"{f'half-space {bit.bit_length() - 1} of ' if bit else ''}term {at} is redundant")
 
 
 def check_notes(terms: list[Term], notes: dict[int, str], setting: Setting) -> int:

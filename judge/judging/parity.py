@@ -89,7 +89,7 @@ def is_odd_flat(elements: list[Element], p: Point) -> bool:
 
 
 def odd_of_faces(faces: list[Face]) -> Callable[[Point], bool]:
-    """The function that tells whether the faces that are crossed are odd in number."""
+    """A function: whether the faces that are crossed are odd in number."""
     ready: list[tuple[Numbers, list[tuple[Numbers, Numbers]]]] = []
     for face in faces:
         row = plane_of(face)
@@ -112,7 +112,7 @@ def odd_of_faces(faces: list[Face]) -> Callable[[Point], bool]:
 
 
 def odd_of(boundary: Boundary) -> Callable[[Point], bool]:
-    """The function that tells whether the ray straight down from a point crosses a boundary an odd number of times."""
+    """A function: whether the ray straight down from a point crosses a boundary an odd number of times."""
     if boundary.kind == "contour":
         return lambda p: is_odd_flat(boundary.elements, p)
     return odd_of_faces(boundary.faces)

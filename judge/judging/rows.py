@@ -27,7 +27,7 @@ class Row(NamedTuple):
         return None if self.out == "free" or given == self.run.out else "the output is not that of the row"
 
 
-def told(line: str) -> Run:
+def run_with(line: str) -> Run:
     """The run that ends with a line: a refusal, an answer, or `free`, a text of which nothing is said here."""
     status = STATUSES.get(line.split()[0], 0) if " " in line else 0
     answer = b"" if line == "free" else line.encode() + b"\n"
@@ -66,7 +66,7 @@ def lines() -> Iterator[Row]:
     for name, (commands, text, line) in chain(table("lines"), table("limits")):
         for nth, words in enumerate(commands.split(";")):
             case = Case(unfolded(words).decode().split(), unfolded(text))
-            yield Row(f"{name} {nth}", case, told(line), "free" if line == "free" else "exactly")
+            yield Row(f"{name} {nth}", case, run_with(line), "free" if line == "free" else "exactly")
 
 
 def elsewhere() -> Iterator[Row]:
@@ -82,16 +82,16 @@ def elsewhere() -> Iterator[Row]:
                 gap = b"\n" if after and text and not text.endswith(b"\n") else b""
                 case = Case(other.split(), unfolded(before) + text + gap + unfolded(after))
                 line = why if prefix == "as it is" or (is_limit and limits == "of both") else f"{prefix} {why}"
-                yield Row(f"{row.name} as {other}", case, told(f"refused: {line}"))
+                yield Row(f"{row.name} as {other}", case, run_with(f"refused: {line}"))
 
 
 def cuts() -> Iterator[Row]:
-    """A text cut behind each of its tokens: the next one is missing at the end."""
+    """A text cut after each of its tokens: the next one is missing at the end."""
     text = (FOLDER / "tetrahedron.case").read_text().partition(">>>>")[2].partition("\n")[2]
     ends = [found.end() for found in re.finditer(r"//.*|(\w+|-\d+|[^\w\s])", text) if found[1]]
     for nth, end in enumerate(ends[:-1], 2):
         place = f"line {text.count(chr(10), 0, end) + 2} token {nth}"
-        yield Row(f"cut {nth}", Case("ask 0 0 0 1".split(), text[:end].encode()), told(f"refused: BadShape {place}"))
+        yield Row(f"cut {nth}", Case("ask 0 0 0 1".split(), text[:end].encode()), run_with(f"refused: BadShape {place}"))
 
 
 def files() -> Iterator[Row]:

@@ -44,7 +44,7 @@ def forced(given: Given) -> bytes:
 
 
 def summary(request: Request, setting: Setting, terms: list[Term], undecided: int) -> bytes:
-    """The lines behind the text of a trial."""
+    """The lines after the text of a trial."""
     flat, discs = map(len, setting.table)
     parts, inside = len(setting.every), sum(setting.every.values())
     counts = f"lines {flat}\ndiscs {discs}\ncandidates" if setting.is_flat else f"planes {flat}\ncells"
@@ -54,7 +54,7 @@ def summary(request: Request, setting: Setting, terms: list[Term], undecided: in
 
 
 def check_converted(given: Given, out: bytes, count: int, dice: random.Random) -> None:
-    """Wrong where the text of `convert`, `combine` or `trial` is, or the summary behind it."""
+    """Wrong where the text of `convert`, `combine` or `trial` is, or the summary after it."""
     setting = setting_of(given)
     before, mark, _ = out.partition(b"\ntrial ")
     text = before + b"\n" if mark else out
