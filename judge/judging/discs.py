@@ -3,7 +3,6 @@
 from itertools import combinations
 from typing import Iterator, NamedTuple
 
-from .cells import Cells
 from .tables import Box, Table, walls_of
 from .vectors import Numbers, Point, disc_value, opposite
 

@@ -9,7 +9,7 @@ from .csg import read_tree
 from .setting import Setting
 from .texts import Refusal, spaced
 from .trees import Leaf, Node, Tree, holds, layout
-from .vectors import Point, is_within
+from .vectors import is_within
 
 NOTE = re.compile(r" *// (own|out) (undecided|-?[0-9]{1,300}( -?[0-9]{1,300})+)")
 

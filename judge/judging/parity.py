@@ -5,7 +5,7 @@ from typing import Callable
 from .contours import Element, Place
 from .meshes import Face, edges_of
 from .tables import Boundary, plane_of
-from .vectors import Numbers, Point, disc_value, dot, opposite
+from .vectors import Numbers, Point, Vector, disc_value, dot, opposite
 
 
 def crosses(a: Numbers, b: Numbers, p: Point) -> bool:
@@ -90,7 +90,7 @@ def is_odd_flat(elements: list[Element], p: Point) -> bool:
 
 def odd_of_faces(faces: list[Face]) -> Callable[[Point], bool]:
     """A function: whether the faces that are crossed are odd in number."""
-    ready: list[tuple[Numbers, list[tuple[Numbers, Numbers]]]] = []
+    ready: list[tuple[Numbers, list[tuple[Vector, Vector]]]] = []
     for face in faces:
         row = plane_of(face)
         if row[2]:

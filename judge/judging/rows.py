@@ -91,7 +91,8 @@ def cuts() -> Iterator[Row]:
     ends = [found.end() for found in re.finditer(r"//.*|(\w+|-\d+|[^\w\s])", text) if found[1]]
     for nth, end in enumerate(ends[:-1], 2):
         place = f"line {text.count(chr(10), 0, end) + 2} token {nth}"
-        yield Row(f"cut {nth}", Case("ask 0 0 0 1".split(), text[:end].encode()), run_with(f"refused: BadShape {place}"))
+        case = Case("ask 0 0 0 1".split(), text[:end].encode())
+        yield Row(f"cut {nth}", case, run_with(f"refused: BadShape {place}"))
 
 
 def files() -> Iterator[Row]:
@@ -105,7 +106,8 @@ def files() -> Iterator[Row]:
 
 def examples() -> Iterator[Row]:
     """The inputs of the project's own examples, converted and factored."""
-    commands = {".off": ("convert off", "factor off"), ".ngc": ("convert contour", "factor contour"), ".layers": ("prism",)}
+    contours = ("convert contour", "factor contour")
+    commands = {".off": ("convert off", "factor off"), ".ngc": contours, ".layers": ("prism",)}
     for path in sorted((FOLDER.parent.parent / "examples").iterdir()):
         for words in commands.get(path.suffix, ()):
             yield Row(f"{path.name} {words}", Case(words.split(), path.read_bytes()), Run(0, b"", b""), "free")

@@ -11,7 +11,7 @@ Vector = tuple[int, int, int]
 
 def farthest(numbers: Iterable[int]) -> int:
     """The greatest size of some numbers."""
-    return max(map(abs, numbers))
+    return max(abs(x) for x in numbers)
 
 
 def minus(a: Vector, b: Vector) -> Vector:

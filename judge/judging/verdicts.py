@@ -45,7 +45,7 @@ def forced(given: Given) -> bytes:
 
 def summary(request: Request, setting: Setting, terms: list[Term], undecided: int) -> bytes:
     """The lines after the text of a trial."""
-    flat, discs = map(len, setting.table)
+    flat, discs = len(setting.table.flat), len(setting.table.discs)
     parts, inside = len(setting.every), sum(setting.every.values())
     counts = f"lines {flat}\ndiscs {discs}\ncandidates" if setting.is_flat else f"planes {flat}\ncells"
     literals = sum(term.taken.bit_count() + term.cut.bit_count() for term in terms)
