@@ -50,8 +50,6 @@ def check_factored(text: bytes, setting: Setting, count: int, dice: random.Rando
     """Wrong where a text is not the factored tree of terms that cover the masks of all candidates."""
     tree, _ = read_laid_out(text, setting.head(), False)
     terms = sorted(products(tree, setting))
-    if len(set(terms)) < len(terms):
-        raise Wrong("a term stands twice")
     if tree != factored_tree(terms, setting):
         raise Wrong("the text is not the factored tree of its terms")
     check_meaning(terms, setting.free, setting)

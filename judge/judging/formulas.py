@@ -74,15 +74,13 @@ def read_laid_out(text: bytes, head: list[str], with_notes: bool) -> tuple[Tree,
 
 
 def side_of(leaves: Iterable[Tree], setting: Setting) -> int:
-    """The half-spaces that some leaves are, as bits; they have to stand in order."""
-    numbers = []
+    """The half-spaces that some leaves are, as bits."""
+    mask = 0
     for leaf in leaves:
         if not isinstance(leaf, Leaf) or leaf not in setting.leaves:
             raise Wrong(f"a literal is no half-space of the boundary: {leaf}")
-        numbers.append(setting.leaves.index(leaf))
-    if numbers != sorted(set(numbers)):
-        raise Wrong(f"literals are out of order: half-spaces {numbers}")
-    return sum(1 << number for number in numbers)
+        mask |= 1 << setting.leaves.index(leaf)
+    return mask
 
 
 def products(tree: Tree, setting: Setting) -> list[Term]:
@@ -210,7 +208,7 @@ def check_formula(
     if terms != sorted(set(terms)):
         raise Wrong("the terms do not ascend")
     if tree != tree_of(terms, setting):
-        raise Wrong("the text is not in normal form")
+        raise Wrong("the text is not in normal form: a literal twice, out of order, or in a group")
     check_meaning(terms, setting.free, setting)
     check_needed(terms, setting.lean)
     undecided = check_notes(terms, notes, setting) if with_notes else 0

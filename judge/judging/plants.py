@@ -88,7 +88,8 @@ def spoiled(case: Case, right: Run, how: str, what: str, more: str) -> Run:
     match how:
         case "sub":
             new = more.encode().decode("unicode_escape") if "\\x" in more else more
-            return right._replace(out=re.sub(what, new, right.out.decode(), count=1, flags=re.M).encode())
+            out = re.sub(what, new, right.out.decode(), count=1, flags=re.M)
+            return right._replace(out=out.encode("latin-1"))
         case "terms":
             return with_terms(case, right, what)
         case "as":

@@ -48,8 +48,6 @@ def trees_in(text: bytes) -> list[list[str]]:
 def check_prism(text: bytes, given: Given, count: int, dice: random.Random) -> None:
     """Wrong where the text of layers is."""
     settings, trees = settings_of(given), trees_in(text)
-    if len(trees) != len(settings):
-        raise Wrong(f"{len(trees)} layers for {len(settings)} sections")
     check_bytes(text, laid_out(given, settings, trees), "layout of layers")
     for at, (setting, tree) in enumerate(zip(settings, trees)):
         try:

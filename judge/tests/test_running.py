@@ -94,7 +94,8 @@ class RunningTest(unittest.TestCase):
     def test_bytes_that_are_read(self) -> None:
         for words, data, count in (
             ("convert", b"G1", 0), ("trial off 1", b"G1", 0), ("ask 0 0 0 9999999999999", b"?", 0), ("upgrade", b"?", 1),
-            ("convert contour", b" " * 1_048_576, 1_048_576), ("prism", b" " * 1_048_599, 1_048_577),
+            ("convert contour", b" " * 1_048_576, 1_048_576),
+            ("prism", b" " * 1_048_599, 1_048_577),
         ):
             self.assertEqual(bytes_taken(words.split(), data), count)
 
