@@ -93,7 +93,10 @@ class RunningTest(unittest.TestCase):
 
     def test_bytes_that_are_read(self) -> None:
         for words, data, count in (
-            ("convert", b"G1", 0), ("trial off 1", b"G1", 0), ("ask 0 0 0 9999999999999", b"?", 0), ("upgrade", b"?", 1),
+            ("convert", b"G1", 0),
+            ("trial off 1", b"G1", 0),
+            ("ask 0 0 0 9999999999999", b"?", 0),
+            ("upgrade", b"?", 1),
             ("convert contour", b" " * 1_048_576, 1_048_576),
             ("prism", b" " * 1_048_599, 1_048_577),
         ):
