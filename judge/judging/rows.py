@@ -8,7 +8,7 @@ from .cases import Case
 from .making import FOLDER
 from .verdicts import Run
 
-STATUSES = {"usage:": 3, "refused:": 2, "out": 6}
+STATUSES = {"usage: ": 3, "refused: ": 2, "out of memory": 6}
 
 
 class Row(NamedTuple):
@@ -29,7 +29,7 @@ class Row(NamedTuple):
 
 def run_with(line: str) -> Run:
     """The run that ends with a line: a refusal, an answer, or `free`, a text of which nothing is said here."""
-    status = STATUSES.get(line.split()[0], 0) if " " in line else 0
+    status = next((status for start, status in STATUSES.items() if line.startswith(start)), 0)
     answer = b"" if line == "free" else line.encode() + b"\n"
     return Run(status, b"", answer) if status else Run(0, answer, b"")
 
