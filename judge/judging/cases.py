@@ -1,7 +1,5 @@
 """Cases for each command: words and bytes, valid, at fault in each way, at limits, and hostile."""
 
-from __future__ import annotations
-
 import re
 from math import isqrt
 from typing import Callable, NamedTuple
@@ -36,7 +34,8 @@ def with_fault(text: str, kind: str, dice: Dice) -> str:
     lines, tokens = text.split("\n"), TOKEN.findall(text)
     at = dice.randrange(len(lines))
     if roll < 5 or not tokens:
-        lines[at : at + 1] = [[], [lines[at]] * 2, [dice.piece(f"{kind}-lines"), lines[at]]][min(roll, 2)]
+        put = [lines[at]] * 2 if roll == 1 else [dice.piece(f"{kind}-lines"), lines[at]]
+        lines[at : at + 1] = put if roll else []
         return "\n".join(lines)
     numbers = [at for at, token in enumerate(tokens) if token[-1].isdigit()]
     if roll < 8 and numbers:

@@ -1,7 +1,5 @@
 """Random contours and meshes, valid and near the limits, and their texts in the many ways that they may be written."""
 
-from __future__ import annotations
-
 import random
 from pathlib import Path
 from typing import Callable, Sequence
@@ -152,7 +150,7 @@ def spelled(value: int, dice: Dice) -> str:
 
 
 def contour_text(whole: list[Contour], dice: Dice) -> bytes:
-    """The text of some contours. In the loose style what is modal is mostly left out, and numbers are spelled anyhow."""
+    """The text of some contours. In the loose style what is modal is often left out, and numbers are spelled anyhow."""
     loose = dice.odds(50)
     lines: list[str] = ["%", "(made) G21 G90"] if loose and dice.odds(50) else []
     at, mode = (0, 0), ""

@@ -1,7 +1,5 @@
 """Worked rows: files with the words, the input and the output of one run each, and a table of short ones."""
 
-from __future__ import annotations
-
 import re
 from itertools import chain
 from typing import Iterator, NamedTuple
@@ -10,21 +8,7 @@ from .cases import Case
 from .making import FOLDER
 from .verdicts import Run
 
-STATUSES = {"usage:": 3, "refused:": 2, "out": 6}
-# Where a refused text of `convert contour`, `convert off` or `upgrade` stands elsewhere: before and after it, and how the
-# line of its fault begins there.
-ELSEWHERE = {
-    "convert contour": (
-        ("factor contour", b"", b"", ""), ("side contour 0 0 0 1", b"", b"", ""),
-        ("combine union contour", b"", b"====\n", ""), ("combine difference contour", b"====\n", b"", "part 2 "),
-        ("prism", b"LAYER 0 1\n", b"", "layer 0 "), ("prism", b"LAYER 0 1\nLAYER 1 2\n", b"LAYER 2 3\n", "layer 1 "),
-    ),
-    "convert off": (
-        ("factor off", b"", b"", ""), ("side off 0 0 0 1", b"", b"", ""), ("combine union off", b"", b"====\nOFF 0 0 0\n", ""),
-        ("combine intersection off", b"OFF 0 0 0\n====\n", b"", "part 2 "), ("audit", b"", b"====\nunion(){}", ""),
-    ),
-    "upgrade": (("ask 0 0 0 1", b"", b"", ""), ("audit", b"OFF 0 0 0\n====\n", b"", "part 2 ")),
-}
+STATUSES = {"usage: ": 3, "refused: ": 2, "out of memory": 6}
 
 
 class Row(NamedTuple):
@@ -43,9 +27,9 @@ class Row(NamedTuple):
         return None if self.out == "free" or given == self.run.out else "the output is not that of the row"
 
 
-def told(line: str) -> Run:
+def run_with(line: str) -> Run:
     """The run that ends with a line: a refusal, an answer, or `free`, a text of which nothing is said here."""
-    status = STATUSES.get(line.split()[0], 0) if " " in line else 0
+    status = next((status for start, status in STATUSES.items() if line.startswith(start)), 0)
     answer = b"" if line == "free" else line.encode() + b"\n"
     return Run(status, b"", answer) if status else Run(0, answer, b"")
 
@@ -82,32 +66,33 @@ def lines() -> Iterator[Row]:
     for name, (commands, text, line) in chain(table("lines"), table("limits")):
         for nth, words in enumerate(commands.split(";")):
             case = Case(unfolded(words).decode().split(), unfolded(text))
-            yield Row(f"{name} {nth}", case, told(line), "free" if line == "free" else "exactly")
+            yield Row(f"{name} {nth}", case, run_with(line), "free" if line == "free" else "exactly")
 
 
 def elsewhere() -> Iterator[Row]:
-    """The refused texts of the tables as other commands read them: alone, as a part, or as a section."""
+    """The refused texts of the tables where other commands read them, by the table `elsewhere`."""
+    places = [fields for _, fields in table("elsewhere")]
     for row in lines():
-        why = row.run.err.removeprefix(b"refused: ").decode()
+        if row.run.status != 2 or len(row.case.data) > 9999:
+            continue
+        why, text = row.run.err.removeprefix(b"refused: ").decode().rstrip(), row.case.data
         is_limit = why.startswith(("TooManyLines", "TooManyDiscs", "TooManyPlanes"))
-        places = ELSEWHERE.get(" ".join(row.case.words), ()) if row.run.status == 2 and len(row.case.data) < 9999 else ()
-        for nth, (words, before, after, prefix) in enumerate(places):
-            if is_limit and words.startswith(("side", "audit")):
-                continue
-            middle = row.case.data
-            gap = b"\n" if after and middle and not middle.endswith(b"\n") else b""
-            prefix = "" if is_limit and words.startswith("combine") else prefix
-            case = Case(words.split(), before + middle + gap + after)
-            yield Row(f"{row.name} elsewhere {nth}", case, told(f"refused: {prefix}{why.rstrip()}"))
+        for words, other, before, after, prefix, limits in places:
+            if words == " ".join(row.case.words) and not (is_limit and limits == "none"):
+                gap = b"\n" if after and text and not text.endswith(b"\n") else b""
+                case = Case(other.split(), unfolded(before) + text + gap + unfolded(after))
+                line = why if prefix == "as it is" or (is_limit and limits == "of both") else f"{prefix} {why}"
+                yield Row(f"{row.name} as {other}", case, run_with(f"refused: {line}"))
 
 
 def cuts() -> Iterator[Row]:
-    """A text cut behind each of its tokens: the next one is missing at the end."""
+    """A text cut after each of its tokens: the next one is missing at the end."""
     text = (FOLDER / "tetrahedron.case").read_text().partition(">>>>")[2].partition("\n")[2]
     ends = [found.end() for found in re.finditer(r"//.*|(\w+|-\d+|[^\w\s])", text) if found[1]]
     for nth, end in enumerate(ends[:-1], 2):
         place = f"line {text.count(chr(10), 0, end) + 2} token {nth}"
-        yield Row(f"cut {nth}", Case("ask 0 0 0 1".split(), text[:end].encode()), told(f"refused: BadShape {place}"))
+        case = Case("ask 0 0 0 1".split(), text[:end].encode())
+        yield Row(f"cut {nth}", case, run_with(f"refused: BadShape {place}"))
 
 
 def files() -> Iterator[Row]:
@@ -121,7 +106,8 @@ def files() -> Iterator[Row]:
 
 def examples() -> Iterator[Row]:
     """The inputs of the project's own examples, converted and factored."""
-    commands = {".off": ("convert off", "factor off"), ".ngc": ("convert contour", "factor contour"), ".layers": ("prism",)}
+    contours = ("convert contour", "factor contour")
+    commands = {".off": ("convert off", "factor off"), ".ngc": contours, ".layers": ("prism",)}
     for path in sorted((FOLDER.parent.parent / "examples").iterdir()):
         for words in commands.get(path.suffix, ()):
             yield Row(f"{path.name} {words}", Case(words.split(), path.read_bytes()), Run(0, b"", b""), "free")
