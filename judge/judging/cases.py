@@ -49,7 +49,8 @@ def spoiled(data: bytes, kind: str, dice: Dice) -> bytes:
     """A text with a fault, with bytes taken out, put in, doubled or changed, cut, very long, or any bytes."""
     roll = dice.randint(0, 99)
     if roll < 70:
-        return with_fault(data.decode(), kind, dice).encode()
+        text = with_fault(data.decode(), kind, dice)
+        return (with_fault(text, kind, dice) if dice.odds(30) else text).encode()
     if roll == 99:
         return dice.randbytes(dice.randint(0, 99))
     if roll == 98:
