@@ -192,7 +192,7 @@ class Outputs(Case):
         executable(self.checkout.program, "#!/bin/sh\necho begun\nsleep 30\n")
         for number, status in [(signal.SIGINT, 130), (signal.SIGTERM, 143), (signal.SIGHUP, 129)]:
             ran = subprocess.Popen(
-                [self.checkout.top / "bcsg", "upgrade", "-o", "kept"], cwd=self.checkout.cwd, env=self.checkout.environment(), start_new_session=True
+                [self.checkout.top / "bcsg", "upgrade", "-o", "kept"], cwd=self.checkout.cwd, env=self.checkout.environment(), stderr=subprocess.DEVNULL, start_new_session=True
             )
             # (the answer is begun once the file beside it has bytes)
             while not any(it.stat().st_size for it in self.checkout.cwd.iterdir()):
