@@ -1,0 +1,122 @@
+"""Joins what is one point in the part, though the file gives it several times, each a little different.
+
+Values of an axis within the noise are one value, and corners with equal values are one corner.
+"""
+
+from __future__ import annotations
+
+import math
+from dataclasses import dataclass
+from fractions import Fraction
+from itertools import product
+
+from .faults import Refused
+from .mesh import Mesh, Point
+from .polygons import Vector
+
+# what real files are exact to, in parts of the size
+NOISE = Fraction(1, 10**6)
+# and the most that is taken for noise where the numbers of the file are coarse
+MOST_NOISE = Fraction(1, 4000)
+
+
+@dataclass
+class Welded:
+    """Corners that differ, and the faces on them. `exact` are the places in the file, `near` the same as floats, moved near 0.
+    `members` are all points of the file that faces use, each with its corner."""
+
+    exact: list[Point]
+    near: list[Vector]
+    faces: list[list[int]]
+    # the face of the file that each one is
+    sources: list[int]
+    noise: Fraction
+    size: Fraction
+    members: list[tuple[Point, int]]
+    notes: list[str]
+
+
+def spans(points: list[Point]) -> list[Fraction]:
+    """The lengths of the box of points along the axes."""
+    return [max(it[k] for it in points) - min(it[k] for it in points) for k in range(3)]
+
+
+def weld(mesh: Mesh, join: Fraction | None) -> Welded:
+    """The mesh with one corner for each point."""
+    used = sorted({it for face in mesh.faces for it in face})
+    if not used:
+        raise Refused("the file has no faces")
+    points = [mesh.points[it] for it in used]
+    sides = spans(points)
+    size = max(sides)
+    for name, side in zip("xyz", sides):
+        if side == 0:
+            raise Refused(f"all corners have the same {name}: a flat mesh has no inside")
+    noise = min(max(size * NOISE, mesh.step), size * MOST_NOISE)
+    places = joined(points, join) if join else points
+    columns = [one_value([it[k] for it in places], noise) for k in range(3)]
+    found: dict[Point, int] = {}
+    index = {}
+    for k, old in enumerate(used):
+        index[old] = found.setdefault((columns[0][k], columns[1][k], columns[2][k]), len(found))
+    exact = list(found)
+    low = [min(it[k] for it in exact) for k in range(3)]
+    near = [(float(x - low[0]), float(y - low[1]), float(z - low[2])) for x, y, z in exact]
+    faces, sources, dropped = clean_faces([[index[it] for it in face] for face in mesh.faces])
+    members = [(mesh.points[old], new) for old, new in index.items()]
+    notes = list(mesh.notes)
+    if len(exact) < len(set(points)):
+        notes.append(f"{len(set(points)) - len(exact)} corners were joined with corners beside them")
+    if dropped:
+        notes.append(f"{dropped} faces with fewer than three corners apart were left out")
+    return Welded(exact, near, faces, sources, noise, size, members, notes)
+
+
+def one_value(values: list[Fraction], noise: Fraction) -> list[Fraction]:
+    """For each value the one that stands for all within the noise: that with the least denominator."""
+    reach = float(noise)
+    order = sorted((float(it), it) for it in set(values))
+    stands: dict[Fraction, Fraction] = {}
+    group: list[Fraction] = []
+    first = last = -math.inf
+    for near, value in [*order, (math.inf, Fraction(0))]:
+        if near - last > reach / 2 or near - first > 2 * reach:
+            middle = group[len(group) // 2] if group else value
+            best = min(group, key=lambda it: (it.denominator, abs(it - middle)), default=value)
+            stands.update((it, best) for it in group)
+            group, first = [], near
+        group.append(value)
+        last = near
+    return [stands[it] for it in values]
+
+
+def joined(points: list[Point], reach: Fraction) -> list[Point]:
+    """For each point the first one within reach of it: the same, or one before it that stands for others."""
+    cells: dict[tuple[int, ...], list[Point]] = {}
+    found = []
+    known: dict[Point, Point] = {}
+    for point in points:
+        if point not in known:
+            cell = tuple(math.floor(it / reach) for it in point)
+            near = (it for step in product((-1, 0, 1), repeat=3) for it in cells.get(tuple(map(sum, zip(cell, step))), ()))
+            known[point] = next((it for it in near if square_distance(it, point) <= reach * reach), point)
+            if known[point] is point:
+                cells.setdefault(cell, []).append(point)
+        found.append(known[point])
+    return found
+
+
+def square_distance(a: Point, b: Point) -> Fraction:
+    """The square of the distance of two points."""
+    return (a[0] - b[0]) ** 2 + (a[1] - b[1]) ** 2 + (a[2] - b[2]) ** 2
+
+
+def clean_faces(faces: list[list[int]]) -> tuple[list[list[int]], list[int], int]:
+    """The faces without repeated corners, where each came from, and how many have too few corners left."""
+    kept, sources = [], []
+    for source, face in enumerate(faces):
+        corners = [it for k, it in enumerate(face) if it != face[k - 1]]
+        if len(set(corners)) >= 3:
+            kept.append(corners)
+            sources.append(source)
+    return kept, sources, len(faces) - len(kept)
