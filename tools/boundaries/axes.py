@@ -197,6 +197,15 @@ def whole_of(values: list[Fraction], trial: Trial) -> list[int]:
     return [it - middle for it in whole]
 
 
+def shifted(values: list[Fraction], scale: Fraction) -> Fit:
+    """The fit at a factor that is not exact, with the move that brings values nearest to whole numbers."""
+    shift, error = gap_shift([float(it - values[0]) for it in values], float(scale))
+    trial = Trial(0, float(scale), shift if shift <= 0.5 else shift - 1, error / float(scale))
+    whole = whole_of(values, trial)
+    reach = Fraction(trial.error) * Fraction(101, 100)
+    return fit_to(values, whole, scale, simplest_move(values, whole, reach, scale))
+
+
 def simple_fit(values: list[Fraction], whole: list[int], error: float, noise: Fraction) -> Fit:
     """The simplest factor and move that bring values to whole numbers which are not exact, hardly farther than they have to."""
     reach = max(Fraction(error) * Fraction(101, 100), noise)

@@ -13,16 +13,22 @@ from fractions import Fraction
 from itertools import product
 from typing import Iterator
 
-from .axes import REACH, SPAN, Fit, Trial, exact_base, multiple, near_base, placed, simple_fit, trials, whole_of
+from .axes import SPAN, Fit, exact_base, multiple, near_base, placed, shifted, simple_fit, trials, whole_of
+from .faults import Refused
 from .loops import Side
 from .mesh import Point
-from .numbers import least_common
+from .numbers import least_common, shown
 from .polygons import Vector, cross, length, minus, off_plane
 
 # how many trials of each axis are combined, where one, two or three axes are not exact
 BEST = {0: 1, 1: 2046, 2: 64, 3: 18}
 # and how many combinations are drawn at random after them, while planes bend
-DRAWN = 60_000
+DRAWN = 20_000
+# how many placings are looked at closer
+KEPT = 6
+# how many fine ones are looked at, and of how many of the finest choices of each axis
+FINE = 12
+FINEST = 60
 
 Whole = tuple[int, int, int]
 
@@ -173,7 +179,12 @@ def search(part: Part, bends: Bends, axes: list[list[Choice]]) -> list[tuple[int
             best.append((bent, sum(it.error**2 for it in combination), combination))
         if bent == 0:
             break
-    return sorted(best, key=lambda it: it[:2])[:8]
+    return sorted(best, key=lambda it: it[:2])[:KEPT]
+
+
+def freed(part: Part) -> list[Fit | None]:
+    """The fits of the axes that have but two values; those of the others are looked for anew, since exact ones bend sides."""
+    return [fit if len(column) == 2 else None for fit, column in zip(exact_fits(part), part.values)]
 
 
 def placings(part: Part) -> list[Placing]:
@@ -181,10 +192,31 @@ def placings(part: Part) -> list[Placing]:
     bends = Bends(part)
     fits = exact_fits(part)
     found = search(part, bends, choices(part, fits))
-    if found and found[0][0] > 0 and any(fits):
-        found += search(part, bends, choices(part, [None, None, None]))
-        found.sort(key=lambda it: it[:2])
-    return [placing(part, it) for _, _, it in found[:8]]
+    if (not found or found[0][0] > 0) and freed(part) != fits:
+        found += search(part, bends, choices(part, freed(part)))
+    return [placing(part, it) for _, _, it in sorted(found, key=lambda it: it[:2])]
+
+
+def fine_placings(part: Part) -> list[Placing]:
+    """Some placings of many steps, at which corners have the most whole places beside them."""
+    draw = random.Random(2)
+    axes = choices(part, freed(part))
+    if not all(axes):
+        return []
+    finest = [sorted(it, key=lambda choice: choice.whole[0] - choice.whole[-1])[:FINEST] for it in axes]
+    return [placing(part, tuple(draw.choice(it) for it in finest)) for _ in range(FINE)]
+
+
+def given(part: Part, factors: list[Fraction]) -> Placing:
+    """The placing at the factors that the caller gave, with the best move."""
+    fits = []
+    for name, column, factor in zip("xyz", part.values, factors):
+        steps = (column[-1] - column[0]) * factor
+        if steps > SPAN:
+            raise Refused(f"the factor {shown(factor)} makes the part {float(steps):.6g} long in {name}, and at most {SPAN} is allowed")
+        fits.append(placed(column, factor, part.noise) or shifted(column, factor))
+    combination = tuple(Choice(list(it.whole), it.error, it) for it in fits)
+    return placing(part, combination)
 
 
 def placing(part: Part, combination: tuple[Choice, ...]) -> Placing:

@@ -5,22 +5,37 @@ from __future__ import annotations
 from dataclasses import dataclass, field
 from fractions import Fraction
 
+from typing import Iterable
+
 from . import limits
-from .faces import Face, made_faces, off_text
+from .faces import made_faces, off_text
 from .faults import Refused
 from .limits import MOST_PLANES
-from .loops import Side, borders, mended, odd_edges, open_edges, sides
+from .loops import Side, borders, mended, open_edges, sides
 from .mesh import Mesh, Point
-from .numbers import near
+from .numbers import near, shown_above
+from .overlap import overlap
 from .planes import gather
 from .repair import repaired
-from .rounding import moved, part_of, placings
+from .rounding import Part, Placing, fine_placings, given, moved, part_of, placings
 from .welding import Welded, weld
 
 # the most by which a corner is moved, in parts of the size, unless the caller asks for more
 MOST_MOVED = Fraction(1, 2000)
+COARSE = Fraction(1, 20)
 # the distances from a plane within which corners count as on it, in parts of the size, after the noise: coarse files need more
 COARSER = (Fraction(1, 100_000), Fraction(1, 20_000), Fraction(1, 5_000))
+
+
+@dataclass(frozen=True)
+class Wishes:
+    """What the caller asked for."""
+
+    factors: list[Fraction] | None = None
+    join: Fraction | None = None
+    layer: str | None = None
+    plane: Fraction | None = None
+    is_coarse: bool = False
 
 
 @dataclass
@@ -68,23 +83,50 @@ def why_open(welded: Welded, edges: list[tuple[int, int]]) -> str:
     return f"the mesh is open: the edge from {place(a)} to {place(b)} belongs to an odd number of faces{more}"
 
 
-def made_solid(mesh: Mesh, join: Fraction | None, factors: list[Fraction] | None, is_coarse: bool) -> Made:
+def made_solid(mesh: Mesh, wishes: Wishes) -> Made:
     """The text of a mesh."""
-    welded = weld(mesh, join)
+    welded = weld(mesh, wishes.join)
     found, notes = gathered(welded)
-    most = max(welded.size * MOST_MOVED, join or Fraction(0))
+    most = max(welded.size * (COARSE if wishes.is_coarse else MOST_MOVED), wishes.join or Fraction(0))
     part = part_of(found, welded.exact, welded.noise, welded.size, most)
+    if wishes.factors:
+        first = [given(part, wishes.factors)]
+    else:
+        first = placings(part)
+    best, why = best_of(first, part, welded)
+    if best is None:
+        fine = first if wishes.factors else [*first, *fine_placings(part)]
+        best, other = best_of((repaired(part, it) for it in fine), part, welded)
+    if best is None:
+        raise Refused(why or "no factor keeps the planes plane")
+    best.notes = [*mesh.notes, *welded.notes, *notes]
+    point = overlap(welded.faces, welded.near, float(welded.noise))
+    if point is not None:
+        low = [min(it[k] for it in welded.exact) for k in range(3)]
+        shown = ", ".join(f"{a + float(b):.6g}" for a, b in zip(point, low))
+        best.notes.append(f"warning: solids overlap, for example at ({shown}); bcsg counts crossings, so the result is hollow there")
+    return best
+
+
+def best_of(made: Iterable[Placing], part: Part, welded: Welded) -> tuple[Made | None, str]:
+    """The text with the fewest planes, and of those the one that moves corners least; or why there is none."""
+    best: tuple[int, float, Made] | None = None
     why = ""
-    found_ones = sorted((repaired(part, it) for it in placings(part)), key=lambda it: it.bent)
-    for made in found_ones:
-        faces = made_faces(found, made.places)
-        fault = limits.mesh_fault(faces)
-        distance = moved(part, made, welded.members)
-        if fault is not None:
-            why = why or fault
+    for one in made:
+        distance = moved(part, one, welded.members)
+        if distance > float(part.most):
+            why = why or (
+                f"a corner would move by {shown_above(distance)}, and at most {shown_above(float(part.most))} is allowed, "
+                "one part in 2,000 of the largest side; --coarse allows more"
+            )
             continue
-        text = Made(off_text(faces), [it.scale for it in made.fits], [it.move for it in made.fits], distance, "")
-        text.counts = f"planes {limits.count_planes(faces)}"
-        text.notes = [*welded.notes, *notes]
-        return text
-    raise Refused(why or "no factor")
+        faces = made_faces(part.sides, one.places)
+        fault = limits.mesh_fault(faces)
+        if fault is not None:
+            why = fault
+            continue
+        count = limits.count_planes(faces)
+        if best is None or (count, distance) < best[:2]:
+            scales, moves = [it.scale for it in one.fits], [it.move for it in one.fits]
+            best = (count, distance, Made(off_text(faces), scales, moves, distance, f"planes {count}"))
+    return best[2] if best else None, why

@@ -6,6 +6,7 @@ Values of an axis within the noise are one value, and corners with equal values 
 from __future__ import annotations
 
 import math
+from collections import Counter
 from dataclasses import dataclass
 from fractions import Fraction
 from itertools import product
@@ -28,8 +29,6 @@ class Welded:
     exact: list[Point]
     near: list[Vector]
     faces: list[list[int]]
-    # the face of the file that each one is
-    sources: list[int]
     noise: Fraction
     size: Fraction
     members: list[tuple[Point, int]]
@@ -62,14 +61,17 @@ def weld(mesh: Mesh, join: Fraction | None) -> Welded:
     exact = list(found)
     low = [min(it[k] for it in exact) for k in range(3)]
     near = [(float(x - low[0]), float(y - low[1]), float(z - low[2])) for x, y, z in exact]
-    faces, sources, dropped = clean_faces([[index[it] for it in face] for face in mesh.faces])
+    faces, dropped = clean_faces([[index[it] for it in face] for face in mesh.faces])
+    faces, twice = once(faces)
     members = [(mesh.points[old], new) for old, new in index.items()]
     notes = list(mesh.notes)
     if len(exact) < len(set(points)):
         notes.append(f"{len(set(points)) - len(exact)} corners were joined with corners beside them")
     if dropped:
         notes.append(f"{dropped} faces with fewer than three corners apart were left out")
-    return Welded(exact, near, faces, sources, noise, size, members, notes)
+    if twice:
+        notes.append(f"{twice} faces that enclose a solid are drawn twice, and are taken once")
+    return Welded(exact, near, faces, noise, size, members, notes)
 
 
 def one_value(values: list[Fraction], noise: Fraction) -> list[Fraction]:
@@ -92,16 +94,16 @@ def one_value(values: list[Fraction], noise: Fraction) -> list[Fraction]:
 
 def joined(points: list[Point], reach: Fraction) -> list[Point]:
     """For each point the first one within reach of it: the same, or one before it that stands for others."""
-    cells: dict[tuple[int, ...], list[Point]] = {}
+    cells: dict[tuple[int, int, int], list[Point]] = {}
     found = []
     known: dict[Point, Point] = {}
     for point in points:
         if point not in known:
-            cell = tuple(math.floor(it / reach) for it in point)
-            near = (it for step in product((-1, 0, 1), repeat=3) for it in cells.get(tuple(map(sum, zip(cell, step))), ()))
+            x, y, z = (math.floor(it / reach) for it in point)
+            near = (it for i, j, k in product((-1, 0, 1), repeat=3) for it in cells.get((x + i, y + j, z + k), ()))
             known[point] = next((it for it in near if square_distance(it, point) <= reach * reach), point)
             if known[point] is point:
-                cells.setdefault(cell, []).append(point)
+                cells.setdefault((x, y, z), []).append(point)
         found.append(known[point])
     return found
 
@@ -111,12 +113,25 @@ def square_distance(a: Point, b: Point) -> Fraction:
     return (a[0] - b[0]) ** 2 + (a[1] - b[1]) ** 2 + (a[2] - b[2]) ** 2
 
 
-def clean_faces(faces: list[list[int]]) -> tuple[list[list[int]], list[int], int]:
-    """The faces without repeated corners, where each came from, and how many have too few corners left."""
-    kept, sources = [], []
-    for source, face in enumerate(faces):
-        corners = [it for k, it in enumerate(face) if it != face[k - 1]]
-        if len(set(corners)) >= 3:
-            kept.append(corners)
-            sources.append(source)
-    return kept, sources, len(faces) - len(kept)
+def clean_faces(faces: list[list[int]]) -> tuple[list[list[int]], int]:
+    """The faces without repeated corners, and how many have too few corners left."""
+    cleaned = ([it for k, it in enumerate(face) if it != face[k - 1]] for face in faces)
+    kept = [it for it in cleaned if len(set(it)) >= 3]
+    return kept, len(faces) - len(kept)
+
+
+def once(faces: list[list[int]]) -> tuple[list[list[int]], int]:
+    """The faces, those that occur twice with one orientation once, where these enclose a solid: then it was written twice. Two
+    solids that overlap may share single faces; these stay."""
+    seen: set[tuple[int, ...]] = set()
+    first: list[list[int]] = []
+    again: list[list[int]] = []
+    for face in faces:
+        start = face.index(min(face))
+        key = (*face[start:], *face[:start])
+        (again if key in seen else first).append(face)
+        seen.add(key)
+    edges = Counter((min(a, b), max(a, b)) for face in again for a, b in zip(face, face[1:] + face[:1]))
+    if again and all(count % 2 == 0 for count in edges.values()):
+        return first, len(again)
+    return faces, 0
