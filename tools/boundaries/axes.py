@@ -10,7 +10,7 @@ import math
 from dataclasses import dataclass
 from fractions import Fraction
 
-from .numbers import greatest_common, simplest_between
+from .decimals import greatest_common, simplest_between
 
 # whole coordinates go from -REACH to REACH
 REACH = 1023
@@ -18,8 +18,8 @@ SPAN = 2 * REACH
 # an exact factor whose numerator and denominator are not above this is taken as it is
 PLAIN = 100_000
 # a part of fewer steps is enlarged, to at least so many
-TINY = 10
-SEEN = 50
+TINY = Fraction(10)
+SEEN = Fraction(50)
 # how many numbers of steps are tried where no factor is exact
 MOST_VALUES = 400
 
@@ -84,15 +84,13 @@ def violation(values: list[Fraction], whole: list[int], noise: Fraction, scale: 
     return low - high
 
 
-def simplest_scale(values: list[Fraction], whole: list[int], noise: Fraction) -> Fraction | None:
-    """The simplest factor that brings values to whole numbers within the noise, or None where none does."""
-    span = values[-1] - values[0]
-    start = Fraction(whole[-1] - whole[0]) / span
+def scale_range(values: list[Fraction], whole: list[int], noise: Fraction, start: Fraction) -> tuple[Fraction, Fraction] | None:
+    """The factors about `start` that bring values to whole numbers within the noise, or None where `start` does not."""
     if violation(values, whole, noise, start) > 0:
         return None
     ends = []
     for direction in (-1, 1):
-        good, bad = start, start * (1 + direction * 3 * noise / span)
+        good, bad = start, start * (1 + direction * 3 * noise / (values[-1] - values[0]))
         while bad > 0 and violation(values, whole, noise, bad) <= 0:
             bad = start + 2 * (bad - start)
         for _ in range(20):
@@ -102,7 +100,13 @@ def simplest_scale(values: list[Fraction], whole: list[int], noise: Fraction) ->
             else:
                 bad = middle
         ends.append(good)
-    return simplest_between(ends[0], ends[1])
+    return ends[0], ends[1]
+
+
+def simplest_scale(values: list[Fraction], whole: list[int], noise: Fraction) -> Fraction | None:
+    """The simplest factor that brings values to whole numbers within the noise, or None where none does."""
+    ends = scale_range(values, whole, noise, Fraction(whole[-1] - whole[0]) / (values[-1] - values[0]))
+    return simplest_between(*ends) if ends else None
 
 
 def simplest_move(values: list[Fraction], whole: list[int], noise: Fraction, scale: Fraction) -> Fraction:
@@ -112,23 +116,28 @@ def simplest_move(values: list[Fraction], whole: list[int], noise: Fraction, sca
     return simplest_between(low, high) if low <= high else (low + high) / 2
 
 
-def placed(values: list[Fraction], scale: Fraction, noise: Fraction) -> Fit | None:
-    """The fit at a factor that is exact within the noise: not moved where that serves, else from 0 on, else about 0."""
+def placed(values: list[Fraction], scale: Fraction, noise: Fraction, ends: tuple[Fraction, Fraction] | None = None) -> Fit | None:
+    """The fit at a factor that is exact within the noise: not moved where that serves, else from 0 on, else about 0. What has to
+    be within reach goes from the first of the `ends` to the second, beyond the values themselves."""
     first = values[0] * scale
     whole = [half_up(it * scale - first) for it in values]
-    if whole[-1] > SPAN:
-        return None
-    starts = [half_up(first), 0, -(whole[-1] // 2)]
-    for start in starts:
-        if start < -REACH or start + whole[-1] > REACH:
+    low, high = ends or (values[0], values[-1])
+    below, above = half_up((low - values[0]) * scale), half_up((high - values[0]) * scale)
+    for start in starts_of(first, below, above):
+        if start + below < -REACH or start + above > REACH:
             continue
         moved = [it + start for it in whole]
         move = simplest_move(values, moved, noise, scale)
-        if start == starts[0] and move != 0:
+        if start == half_up(first) and move != 0:
             continue
         fit = fit_to(values, moved, scale, move)
         return fit if fit.error <= float(noise) * 1.0000001 else None
     return None
+
+
+def starts_of(first: Fraction, below: int, above: int) -> list[int]:
+    """Where the first value may come to stand, the plainest first."""
+    return [half_up(first), -below, -below - (above - below) // 2]
 
 
 def multiple(base: Fraction, span: Fraction, target: Fraction | None) -> Fraction:
@@ -206,10 +215,9 @@ def shifted(values: list[Fraction], scale: Fraction) -> Fit:
     return fit_to(values, whole, scale, simplest_move(values, whole, reach, scale))
 
 
-def simple_fit(values: list[Fraction], whole: list[int], error: float, noise: Fraction) -> Fit:
-    """The simplest factor and move that bring values to whole numbers which are not exact, hardly farther than they have to."""
-    reach = max(Fraction(error) * Fraction(101, 100), noise)
-    scale = simplest_scale(values, whole, reach)
-    if scale is None:
-        scale = Fraction(whole[-1] - whole[0]) / (values[-1] - values[0])
+def simple_fit(values: list[Fraction], whole: list[int], trial: Trial, noise: Fraction) -> Fit:
+    """The simplest factor and move that bring values to the whole numbers of a trial, hardly farther than they have to."""
+    reach = max(Fraction(trial.error) * Fraction(101, 100), noise)
+    ends = scale_range(values, whole, reach, Fraction(trial.factor))
+    scale = simplest_between(*ends) if ends else Fraction(trial.factor)
     return fit_to(values, whole, scale, simplest_move(values, whole, reach, scale))

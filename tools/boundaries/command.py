@@ -6,16 +6,27 @@ import argparse
 import errno
 import os
 import re
+import subprocess
 import sys
+from dataclasses import replace
 from fractions import Fraction
+from importlib.util import find_spec
 from pathlib import Path
 from typing import NoReturn
 
+from .drawings import made_outlines
+from .dxf import layers_of, read_dxf
 from .faults import DeviceFault, Refused
-from .numbers import number, shown, shown_above
+from .decimals import number, shown, shown_above
+from .pieces import Piece
 from .reading import DRAWING, READERS, contents, ending
-from .solids import Made, Wishes, made_solid
+from .section import section
+from .made import Made, Wishes
+from .solids import made_solid
 
+# the Python for which Debian installs ezdxf, and the variable that says it was tried
+DEBIAN = "/usr/bin/python3"
+TRIED = "BCSG_TOOLS_PYTHON_TRIED"
 USAGE = "tools/from [--factor F or FX,FY,FZ] [--join TOLERANCE] [--layer NAME] [--plane Z] [--coarse] FILE"
 
 
@@ -87,11 +98,20 @@ def made(name: str, wishes: Wishes) -> Made:
     path = Path(name)
     form = ending(path)
     if form == DRAWING:
-        raise Refused("DXF is not read yet")
+        if wishes.plane is not None:
+            raise Refused("--plane is for meshes, and this is a drawing")
+        contents(path)
+        drawing = read_dxf(path, wishes.layer)
+        layers = "the layer read is " + repr(wishes.layer) if wishes.layer is not None else layers_of(drawing) + "; --layer reads one"
+        return made_outlines(drawing.pieces, replace(wishes, factors=factors_for(2, wishes)), drawing.notes, layers)
     if wishes.layer is not None:
         raise Refused("--layer is for drawings, and this is a mesh")
     mesh = READERS[form](contents(path))
-    return made_solid(mesh, Wishes(factors_for(3, wishes), wishes.join, None, None, wishes.is_coarse))
+    if wishes.plane is None:
+        return made_solid(mesh, replace(wishes, factors=factors_for(3, wishes)))
+    lines, notes = section(mesh, wishes.plane)
+    pieces = [Piece(a, b, source="the section") for a, b in lines]
+    return made_outlines(pieces, replace(wishes, factors=factors_for(2, wishes)), notes, "the mesh is open there")
 
 
 def report(result: Made) -> list[str]:
@@ -127,12 +147,24 @@ def write(text: str) -> None:
         raise DeviceFault(f"standard output: {reason}") from None
 
 
+def find_ezdxf() -> None:
+    """Goes on with Debian's own Python where that has ezdxf and this one has not: the first one on the path may be another."""
+    if find_spec("ezdxf") is not None or os.environ.get(TRIED) or not os.access(DEBIAN, os.X_OK):
+        return
+    probe = "import sys, importlib.util as it; sys.exit(sys.version_info < (3, 11) or it.find_spec('ezdxf') is None)"
+    if subprocess.run([DEBIAN, "-c", probe], capture_output=True, check=False).returncode == 0:
+        os.environ[TRIED] = "1"
+        os.execv(DEBIAN, [DEBIAN, *sys.argv])
+
+
 def main(words: list[str]) -> int:
     """Runs the command; the status is 0, 2 where the file or the words are refused, 1 where standard output fails."""
     name = ""
     try:
         given = parser(USAGE, "Prints an integer OFF text, or contour blocks, for a file of another program.").parse_args(words)
         name = printable(given.file)
+        if Path(given.file).suffix.lower() == DRAWING:
+            find_ezdxf()
         result = made(given.file, wishes_of(given))
         write(result.text)
     except Refused as fault:

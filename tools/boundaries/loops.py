@@ -64,7 +64,7 @@ class Corners:
     def near(self, a: Vector, b: Vector) -> Iterable[int]:
         """The corners in the boxes round the way from a to b."""
         steps = max(1, math.ceil(2 * math.dist(a, b) / self.width))
-        seen = set()
+        seen: set[tuple[int, int, int]] = set()
         for k in range(steps + 1):
             t = k / steps
             x, y, z = self.box((a[0] + t * (b[0] - a[0]), a[1] + t * (b[1] - a[1]), a[2] + t * (b[2] - a[2])))
@@ -119,9 +119,8 @@ def straight_corners(found: list[set[Edge]], points: Sequence[Vector], noise: fl
     for corner, others in ways.items():
         if len(others) != 2:
             continue
-        a, b = (minus(points[it], points[corner]) for it in others)
-        shorter, longer = sorted((length(a), length(b)))
-        if dot(a, b) < 0 and length(cross(a, b)) <= 2 * noise * (shorter + longer):
+        back, on = (minus(points[it], points[corner]) for it in others)
+        if dot(back, on) < 0 and length(cross(back, on)) <= 2 * noise * (length(back) + length(on)):
             straight.add(corner)
     return straight
 

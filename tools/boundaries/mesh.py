@@ -6,7 +6,7 @@ from dataclasses import dataclass, field
 from fractions import Fraction
 
 from .faults import Refused
-from .numbers import number, why_no_number
+from .decimals import number, why_no_number
 
 Point = tuple[Fraction, Fraction, Fraction]
 

@@ -10,7 +10,7 @@ from typing import Iterator
 
 from .faults import Refused
 from .mesh import Mesh, Words, check_count
-from .numbers import from_double, from_single
+from .decimals import from_double, from_single
 from .stl import single_step
 
 TYPES = {
@@ -125,7 +125,8 @@ def from_text(text: str, head: Head) -> Mesh:
     rows = iter(enumerate(text.splitlines(), head.lines + 1))
     for element in head.elements:
         for done in range(element.count):
-            line, words = next(((line, it.split()) for line, it in rows if it.strip()), (0, []))
+            line, row = next(((line, it) for line, it in rows if it.strip()), (0, ""))
+            words = row.split()
             if not words:
                 raise Refused(f"the file is cut off: it has {done:,} of {element.count:,} elements '{element.name}'")
             values = row_values(words, element, line)

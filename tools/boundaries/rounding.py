@@ -11,13 +11,13 @@ import random
 from dataclasses import dataclass
 from fractions import Fraction
 from itertools import product
-from typing import Iterator
+from typing import Iterator, Protocol
 
-from .axes import SPAN, Fit, exact_base, multiple, near_base, placed, shifted, simple_fit, trials, whole_of
+from .axes import SEEN, SPAN, Fit, Trial, exact_base, multiple, near_base, placed, shifted, simple_fit, trials, whole_of
 from .faults import Refused
 from .loops import Side
 from .mesh import Point
-from .numbers import least_common, shown
+from .decimals import least_common, shown
 from .polygons import Vector, cross, length, minus, off_plane
 
 # how many trials of each axis are combined, where one, two or three axes are not exact
@@ -65,25 +65,32 @@ def part_of(sides: list[Side], exact: list[Point], noise: Fraction, size: Fracti
     return Part(sides, exact, corners, values, index, noise, size, most)
 
 
-def exact_fits(part: Part) -> list[Fit | None]:
+def exact_fits(values: list[list[Fraction]], noise: Fraction) -> list[Fit | None]:
     """The fits of the axes that are exact: with one factor for all of them where one serves, else each with its own."""
-    bases = [exact_base(it) or near_base(it, part.noise) for it in part.values]
-    spans = [it[-1] - it[0] for it in part.values]
+    bases = [exact_base(it) or near_base(it, noise) for it in values]
+    spans = [it[-1] - it[0] for it in values]
     known = [it for it in bases if it is not None]
-    if len(known) == 3:
+    if len(known) == len(values):
         shared = least_common(known)
         if shared * max(spans) <= SPAN:
             scale = multiple(shared, max(spans), None)
-            fits = [placed(it, scale, part.noise) for it in part.values]
+            fits = [placed(it, scale, noise) for it in values]
             if all(it is not None for it in fits):
                 return fits
     # (the factors are near one another where they can be, so that the part looks as it is)
     fixed = [Fraction(SPAN) / span if base is None else base for base, span in zip(bases, spans)]
-    target = min((it for it, base in zip(fixed, bases) if base is None), default=max(fixed))
+    target = min((it for it, base in zip(fixed, bases) if base is None), default=max(*fixed, SEEN / max(spans)))
     return [
-        None if base is None else placed(column, multiple(base, span, target), part.noise)
-        for base, span, column in zip(bases, spans, part.values)
+        None if base is None else placed(column, multiple(base, span, target), noise)
+        for base, span, column in zip(bases, spans, values)
     ]
+
+
+class Bending(Protocol):
+    """What can bend: sides of a mesh, or lines on which several edges lie."""
+
+    def count(self, whole: list[list[int]], most: int) -> int:
+        """How many bend at these whole values of the axes; counted no further than to `most`."""
 
 
 class Bends:
@@ -139,28 +146,36 @@ def far_apart(corners: list[Whole], part: Part) -> tuple[Whole, Whole, Whole]:
 
 @dataclass
 class Choice:
-    """What an axis may be: the whole numbers of its values, and how far they are from them."""
+    """What an axis may be: the whole numbers of its values, how far they are from them, and the trial or the fit behind it."""
 
     whole: list[int]
     error: float
+    trial: Trial | None = None
     fit: Fit | None = None
 
+    def made(self, values: list[Fraction], noise: Fraction) -> Fit:
+        """The fit, with a simple factor and move."""
+        if self.fit is not None:
+            return self.fit
+        assert self.trial is not None
+        return simple_fit(values, self.whole, self.trial, noise)
 
-def choices(part: Part, fits: list[Fit | None]) -> list[list[Choice]]:
+
+def choices(values: list[list[Fraction]], most: Fraction, fits: list[Fit | None]) -> list[list[Choice]]:
     """The choices of each axis, the best first; of an axis that is exact there is one."""
     found = []
-    for column, fit in zip(part.values, fits):
+    for column, fit in zip(values, fits):
         if fit is not None:
-            found.append([Choice(list(fit.whole), fit.error, fit)])
+            found.append([Choice(list(fit.whole), fit.error, fit=fit)])
         else:
-            found.append([Choice(whole_of(column, it), it.error) for it in trials(column, SPAN, part.most)])
+            found.append([Choice(whole_of(column, it), it.error, it) for it in trials(column, SPAN, most)])
     return found
 
 
 def combinations(axes: list[list[Choice]]) -> Iterator[tuple[Choice, ...]]:
     """The choices of the axes together: the best of each axis, those with the least distances first; then some of all."""
     count = BEST[sum(len(it) > 1 for it in axes)]
-    yield from sorted(product(*(it[:count] for it in axes)), key=lambda it: sum(choice.error**2 for choice in it))
+    yield from sorted(product(*(it[:count] for it in axes)), key=square_error)
     if any(len(it) > count for it in axes):
         # (the same numbers at each run)
         draw = random.Random(1)
@@ -168,15 +183,20 @@ def combinations(axes: list[list[Choice]]) -> Iterator[tuple[Choice, ...]]:
             yield tuple(draw.choice(it) for it in axes)
 
 
-def search(part: Part, bends: Bends, axes: list[list[Choice]]) -> list[tuple[int, float, tuple[Choice, ...]]]:
+def square_error(combination: tuple[Choice, ...]) -> float:
+    """The sum of the squares of the distances on the axes."""
+    return sum((it.error * it.error for it in combination), 0.0)
+
+
+def search(bends: Bending, axes: list[list[Choice]]) -> list[tuple[int, float, tuple[Choice, ...]]]:
     """The combinations at which the fewest sides bend, each with their number and its distance, the best ones first."""
     best: list[tuple[int, float, tuple[Choice, ...]]] = []
-    least = len(bends.sides) + 1
+    least = 10**6
     for combination in combinations(axes):
         bent = bends.count([it.whole for it in combination], least + 1)
         if bent <= least:
             least = bent
-            best.append((bent, sum(it.error**2 for it in combination), combination))
+            best.append((bent, square_error(combination), combination))
         if bent == 0:
             break
     return sorted(best, key=lambda it: it[:2])[:KEPT]
@@ -184,23 +204,23 @@ def search(part: Part, bends: Bends, axes: list[list[Choice]]) -> list[tuple[int
 
 def freed(part: Part) -> list[Fit | None]:
     """The fits of the axes that have but two values; those of the others are looked for anew, since exact ones bend sides."""
-    return [fit if len(column) == 2 else None for fit, column in zip(exact_fits(part), part.values)]
+    return [fit if len(column) == 2 else None for fit, column in zip(exact_fits(part.values, part.noise), part.values)]
 
 
 def placings(part: Part) -> list[Placing]:
     """The placings at which the fewest sides bend: with the exact factors where these bend none, else with any."""
     bends = Bends(part)
-    fits = exact_fits(part)
-    found = search(part, bends, choices(part, fits))
+    fits = exact_fits(part.values, part.noise)
+    found = search(bends, choices(part.values, part.most, fits))
     if (not found or found[0][0] > 0) and freed(part) != fits:
-        found += search(part, bends, choices(part, freed(part)))
+        found += search(bends, choices(part.values, part.most, freed(part)))
     return [placing(part, it) for _, _, it in sorted(found, key=lambda it: it[:2])]
 
 
 def fine_placings(part: Part) -> list[Placing]:
     """Some placings of many steps, at which corners have the most whole places beside them."""
     draw = random.Random(2)
-    axes = choices(part, freed(part))
+    axes = choices(part.values, part.most, freed(part))
     if not all(axes):
         return []
     finest = [sorted(it, key=lambda choice: choice.whole[0] - choice.whole[-1])[:FINEST] for it in axes]
@@ -215,15 +235,13 @@ def given(part: Part, factors: list[Fraction]) -> Placing:
         if steps > SPAN:
             raise Refused(f"the factor {shown(factor)} makes the part {float(steps):.6g} long in {name}, and at most {SPAN} is allowed")
         fits.append(placed(column, factor, part.noise) or shifted(column, factor))
-    combination = tuple(Choice(list(it.whole), it.error, it) for it in fits)
+    combination = tuple(Choice(list(it.whole), it.error, fit=it) for it in fits)
     return placing(part, combination)
 
 
 def placing(part: Part, combination: tuple[Choice, ...]) -> Placing:
     """The placing of a combination, with simple factors and moves."""
-    fits = []
-    for column, choice in zip(part.values, combination):
-        fits.append(choice.fit or simple_fit(column, choice.whole, choice.error, part.noise))
+    fits = [choice.made(column, part.noise) for column, choice in zip(part.values, combination)]
     whole = [it.whole for it in combination]
     places = {it: (whole[0][i], whole[1][j], whole[2][k]) for it, (i, j, k) in part.index.items()}
     return Placing(fits, places, Bends(part).pieces(whole))

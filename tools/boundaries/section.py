@@ -7,7 +7,7 @@ from fractions import Fraction
 
 from .faults import Refused
 from .mesh import Mesh, Point
-from .numbers import near
+from .decimals import near
 
 Spot = tuple[Fraction, Fraction]
 

@@ -2,7 +2,6 @@
 
 from __future__ import annotations
 
-from dataclasses import dataclass, field
 from fractions import Fraction
 
 from typing import Iterable
@@ -12,42 +11,17 @@ from .faces import made_faces, off_text
 from .faults import Refused
 from .limits import MOST_PLANES
 from .loops import Side, borders, mended, open_edges, sides
+from .made import Made, Wishes
 from .mesh import Mesh, Point
-from .numbers import near, shown_above
+from .decimals import near, shown_above
 from .overlap import overlap
 from .planes import gather
 from .repair import repaired
 from .rounding import Part, Placing, fine_placings, given, moved, part_of, placings
 from .welding import Welded, weld
 
-# the most by which a corner is moved, in parts of the size, unless the caller asks for more
-MOST_MOVED = Fraction(1, 2000)
-COARSE = Fraction(1, 20)
 # the distances from a plane within which corners count as on it, in parts of the size, after the noise: coarse files need more
 COARSER = (Fraction(1, 100_000), Fraction(1, 20_000), Fraction(1, 5_000))
-
-
-@dataclass(frozen=True)
-class Wishes:
-    """What the caller asked for."""
-
-    factors: list[Fraction] | None = None
-    join: Fraction | None = None
-    layer: str | None = None
-    plane: Fraction | None = None
-    is_coarse: bool = False
-
-
-@dataclass
-class Made:
-    """A text, what was done to get it, and what there is to say about it."""
-
-    text: str
-    scales: list[Fraction]
-    moves: list[Fraction]
-    moved: float
-    counts: str
-    notes: list[str] = field(default_factory=list)
 
 
 def gathered(welded: Welded) -> tuple[list[Side], list[str]]:
@@ -87,8 +61,7 @@ def made_solid(mesh: Mesh, wishes: Wishes) -> Made:
     """The text of a mesh."""
     welded = weld(mesh, wishes.join)
     found, notes = gathered(welded)
-    most = max(welded.size * (COARSE if wishes.is_coarse else MOST_MOVED), wishes.join or Fraction(0))
-    part = part_of(found, welded.exact, welded.noise, welded.size, most)
+    part = part_of(found, welded.exact, welded.noise, welded.size, wishes.most(welded.size))
     if wishes.factors:
         first = [given(part, wishes.factors)]
     else:

@@ -12,7 +12,7 @@ from fractions import Fraction
 
 from .faults import Refused
 from .mesh import Mesh, Words, check_count
-from .numbers import from_single
+from .decimals import from_single
 
 HEAD = 84
 FACET = struct.Struct("<12x12s12s12s2x")
