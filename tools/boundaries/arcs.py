@@ -11,18 +11,27 @@ import math
 import random
 from collections import defaultdict
 from dataclasses import dataclass
-from itertools import product
+from itertools import islice, product
 from typing import Iterator
 
 from .axes import SPAN, gap_shift
+from .halves import Arc, Halves, Place, halved
 
-# how many numbers of steps are tried with the moves that suit them best, and how many factors and moves at random after them
+# how many numbers of steps are tried with the moves that suit them best; how many other factors are looked at after them, with
+# how many moves each, and how many of both together
 BEST = 400
-DRAWN = 8000
+FACTORS = 20_000
+MOVES = 40
+DRAWN = 5000
 # answers that are compared before the best is taken, choices of one arc that are followed, and steps of one trial
-ANSWERS = 12
+ANSWERS = 8
+# trials after the first answer, and arcs that are made two
+AFTER = 200
+HALVINGS = 60
 FOLLOWED = 6
 STEPS = 120
+# the share of what is allowed that the centre of a full circle may move; the rest is for its radius
+HUB = 0.9
 
 
 @dataclass(frozen=True)
@@ -40,13 +49,14 @@ class Round:
 
 @dataclass
 class Answer:
-    """A factor and moves, the whole numbers of the coordinates on both axes, the vectors from centres to full circles, and the
-    greatest distance along arcs, in units of the drawing."""
+    """A factor and moves, the whole numbers of the coordinates on both axes, the vectors from centres to full circles, the arcs
+    that are two now, and the greatest distance along arcs, in units of the drawing."""
 
     factor: float
     shifts: tuple[float, float]
     whole: tuple[list[int], list[int]]
     spokes: dict[int, tuple[int, int]]
+    halves: dict[int, Halves]
     off: float
 
 
@@ -65,6 +75,8 @@ class Task:
     # for each axis in which the coordinates mirror one another the middle, and for each of them its twin
     middles: tuple[float, float]
     twins: tuple[dict[int, int], dict[int, int]]
+    # the centres of full circles
+    hubs: frozenset[tuple[int, int]]
 
     @property
     def span(self) -> float:
@@ -75,11 +87,14 @@ class Task:
 class Trial:
     """One factor and one move."""
 
-    def __init__(self, task: Task, factor: float, shifts: tuple[float, float], one_ring: bool) -> None:
+    def __init__(self, task: Task, factor: float, shifts: tuple[float, float], one_ring: bool, splits: int) -> None:
         self.task = task
         self.factor = factor
         self.shifts = shifts
         self.one_ring = one_ring
+        self.splits = splits
+        self.halvings = 0
+        self.halves: dict[int, Halves] = {}
         self.taken: tuple[dict[int, int], dict[int, int]] = ({}, {})
         self.rings: dict[int, int] = {}
         self.steps = 0
@@ -109,11 +124,11 @@ class Trial:
                     found[(a - c) ** 2 - (b - c) ** 2].append((c, a, b))
         return found
 
-    def is_near(self, spot: tuple[int, int], x: int, y: int) -> bool:
-        """Whether a whole place is near enough to a point."""
+    def is_near(self, spot: tuple[int, int], x: int, y: int, share: float = 1.0) -> bool:
+        """Whether a whole place is near enough to a point; nearer than the most allowed where a share of that is named."""
         off_x = (x - self.shifts[0]) / self.factor - self.task.values[0][spot[0]]
         off_y = (y - self.shifts[1]) / self.factor - self.task.values[1][spot[1]]
-        return math.hypot(off_x, off_y) <= self.task.most
+        return math.hypot(off_x, off_y) <= self.task.most * share
 
     def choices(self, one: Round) -> list[tuple[float, tuple[int, int, int], tuple[int, int, int]]]:
         """The choices for an arc, those with the least distance along it first."""
@@ -126,6 +141,8 @@ class Trial:
                 if square == 0 or (x[1], y[1]) == (x[2], y[2]) or (ring is not None and square != ring):
                     continue
                 off = self.off(one, (x[0], y[0]), square)
+                if one.centre in self.task.hubs and not self.is_near(one.centre, x[0], y[0], HUB):
+                    continue
                 if off <= self.task.most and all(self.is_near(one.ends[k], x[k + 1], y[k + 1]) for k in (0, 1)):
                     found.append((off, x, y))
         found.sort()
@@ -141,6 +158,28 @@ class Trial:
             angle = one.first + one.sweep * k / 8
             farthest = max(farthest, abs(cx * math.cos(angle) + cy * math.sin(angle) + change))
         return farthest
+
+    def spots(self, spot: tuple[int, int]) -> list[Place]:
+        """The whole places that an end may take."""
+        found = [it for it in product(self.places(0, spot[0], {}), self.places(1, spot[1], {})) if self.is_near(spot, *it)]
+        x, y = (self.task.values[k][spot[k]] * self.factor + self.shifts[k] for k in (0, 1))
+        return sorted(found, key=lambda it: math.hypot(it[0] - x, it[1] - y))
+
+    def split(self, at: int) -> float | None:
+        """Puts two arcs in the place of one, and goes on with the next arcs."""
+        one = self.task.arcs[at]
+        self.halvings += 1
+        x, y = (self.task.values[k][one.centre[k]] * self.factor + self.shifts[k] for k in (0, 1))
+        arc = Arc(x, y, one.radius * self.factor, one.first, one.sweep, self.task.most * self.factor)
+        found = halved(arc, self.spots(one.ends[0]), self.spots(one.ends[1]))
+        if found is None:
+            return None
+        for spot, place in zip(one.ends, found[:2]):
+            for axis in (0, 1):
+                self.taken[axis][spot[axis]] = place[axis]
+        self.halves[self.task.rounds.index(one)] = found[2]
+        rest = self.fill(at + 1)
+        return max(found[2].off / self.factor, rest) if rest is not None else None
 
     def fill(self, at: int) -> float | None:
         """Finds choices for the arcs from one on; the greatest distance along them, or None where there are none."""
@@ -159,7 +198,7 @@ class Trial:
             if rest is not None:
                 return max(off, rest)
             self.taken, self.rings = (kept[0], kept[1]), kept[2]
-        return None
+        return self.split(at) if self.halvings < self.splits else None
 
     def nearest(self, axis: int, index: int) -> int:
         """The whole number of a coordinate: the one that arcs took, or the nearest one."""
@@ -183,7 +222,7 @@ class Trial:
                 off = max(off, self.off(one, place, spokes[at][0] ** 2 + spokes[at][1] ** 2))
         if off > self.task.most:
             return None
-        return Answer(self.factor, self.shifts, (whole[0], whole[1]), spokes, off)
+        return Answer(self.factor, self.shifts, (whole[0], whole[1]), spokes, self.halves, off)
 
 
 def spoke(radius: float, square: int | None) -> tuple[int, int]:
@@ -201,9 +240,9 @@ def spoke(radius: float, square: int | None) -> tuple[int, int]:
     return found if square is None or best == 0 else (0, 0)
 
 
-def trials(task: Task, factor: float | None) -> Iterator[tuple[float, tuple[float, float]]]:
-    """Factors and moves: those at which all coordinates are nearest to whole numbers, then some at random of nearly the greatest
-    factor; or moves alone, where the factor is given."""
+def trials(task: Task, factor: float | None, splits: int) -> Iterator[tuple[float, tuple[float, float]]]:
+    """Factors and moves: those at which all coordinates are nearest to whole numbers, then others at which each arc by itself
+    has whole vectors to its ends; or moves alone, where the factor is given."""
     draw = random.Random(4)
     found = []
     for steps in range(1, SPAN + 1) if factor is None else [0]:
@@ -211,12 +250,36 @@ def trials(task: Task, factor: float | None) -> Iterator[tuple[float, tuple[floa
         (x, off_x), (y, off_y) = (gap_shift(it, tried) for it in task.values)
         found.append((max(off_x, off_y) / tried, tried, (x, y)))
     found.sort()
-    for off, tried, shifts in found[:BEST]:
+    for off, tried, shifts in found[: 0 if splits else BEST]:
         if off <= task.most:
             yield tried, (mirrored(task, 0, tried, shifts[0]), mirrored(task, 1, tried, shifts[1]))
-    for _ in range(DRAWN):
-        tried = factor or draw.uniform(0.94, 1.0) * (SPAN - 2) / task.span
-        yield tried, (mirrored(task, 0, tried, draw.random()), mirrored(task, 1, tried, draw.random()))
+    moves = 2 if all(task.twins) or splits else MOVES
+    left = DRAWN // 40 if splits else DRAWN
+    for _ in range(FACTORS):
+        tried = factor or (1 - draw.random() ** 2 * 0.4) * SPAN / task.span
+        bad = (not is_possible(task, it, tried) for it in task.arcs)
+        if sum(islice((it for it in bad if it), splits + 1)) <= splits:
+            for _ in range(moves):
+                yield tried, (mirrored(task, 0, tried, draw.random()), mirrored(task, 1, tried, draw.random()))
+            left -= moves
+            if left <= 0:
+                break
+
+
+def is_possible(task: Task, one: Round, factor: float) -> bool:
+    """Whether there are whole vectors of one length near those from the centre of an arc to its ends."""
+    reach = 2 * min(task.most * factor, 1.3)
+    seen: set[int] = set()
+    for which, spot in enumerate(one.ends):
+        x, y = ((task.values[k][spot[k]] - task.values[k][one.centre[k]]) * factor for k in (0, 1))
+        squares = {
+            i * i + j * j
+            for i in range(math.ceil(x - reach), math.floor(x + reach) + 1)
+            for j in range(math.ceil(y - reach), math.floor(y + reach) + 1)
+            if (i - x) ** 2 + (j - y) ** 2 <= reach * reach
+        }
+        seen = seen & squares if which else squares
+    return bool(seen)
 
 
 def mirrored(task: Task, axis: int, factor: float, shift: float) -> float:
@@ -256,14 +319,19 @@ def within_reach(task: Task, factor: float) -> bool:
     return task.span * factor <= SPAN
 
 
-def answers(task: Task, tries: Iterator[tuple[float, tuple[float, float]]], one_ring: bool) -> list[Answer]:
-    """The first answers among trials."""
-    found = []
-    for factor, shifts in tries:
-        if within_reach(task, factor):
-            made = Trial(task, factor, shifts, one_ring).answer()
-            if made is not None:
-                found.append(made)
-                if len(found) == ANSWERS:
-                    break
+def answers(task: Task, factor: float | None, one_ring: bool, splits: int) -> list[Answer]:
+    """The first answers among trials; so many arcs may become two."""
+    found: list[Answer] = []
+    after, halvings = 0, 0
+    for tried, shifts in trials(task, factor, splits):
+        if not within_reach(task, tried):
+            continue
+        trial = Trial(task, tried, shifts, one_ring, splits)
+        made = trial.answer()
+        after += bool(found)
+        halvings += trial.halvings
+        if made is not None:
+            found.append(made)
+        if len(found) == ANSWERS or after == AFTER or halvings > HALVINGS:
+            break
     return found

@@ -3,14 +3,15 @@
 from __future__ import annotations
 
 import math
-from dataclasses import dataclass
+from dataclasses import dataclass, field
 from fractions import Fraction
 from typing import Iterator
 
 from . import limits
-from .arcs import Answer, Round, Task, answers, ordered, spoke, trials, twins_of
+from .arcs import Answer, Round, Task, answers, ordered, spoke, twins_of
 from .axes import REACH, SPAN, Fit, exact_base, fit_to, multiple, near_base, placed, scale_range, shifted, simplest_move
 from .faults import Refused
+from .halves import Halves
 from .limits import MOST_DISCS, MOST_LINES, Element
 from .made import Made, Wishes
 from .decimals import from_double, shown_above, simplest_between
@@ -38,13 +39,27 @@ class Sheet:
         """The indices of a point's coordinates."""
         return (self.index[0][spot[0]], self.index[1][spot[1]])
 
+    def centre_at(self, spot: Spot, is_tied: bool) -> tuple[int, int]:
+        """The indices of a centre's coordinates."""
+        i, j = self.at(spot)
+        return (i, j) if is_tied else (i + len(self.values[0]), j + len(self.values[1]))
+
 
 @dataclass
 class Layout:
-    """Factors and moves for both axes, and the whole vectors from the centres of full circles."""
+    """Factors and moves for both axes, the whole vectors from the centres of full circles, and the centres that do not have the
+    coordinates of ends."""
 
     fits: list[Fit]
     spokes: dict[object, tuple[int, int]]
+    centres: dict[Spot, tuple[int, int]] = field(default_factory=dict)
+    # arcs that are two now
+    halves: dict[Piece, Halves] = field(default_factory=dict)
+
+    def centre(self, sheet: Sheet, spot: Spot) -> tuple[int, int]:
+        """The whole place of a centre."""
+        i, j = sheet.at(spot)
+        return self.centres.get(spot, (self.fits[0].whole[i], self.fits[1].whole[j]))
 
 
 def sheet_of(outlines: list[Outline], noise: Fraction, most: Fraction) -> Sheet:
@@ -189,8 +204,9 @@ def exact_round(sheet: Sheet, factor: Fraction | None, with_radii: bool) -> Layo
     return layout
 
 
-def task_of(sheet: Sheet) -> Task:
-    """The arcs of a sheet, as a task of whole places."""
+def task_of(sheet: Sheet, is_tied: bool, is_mirrored: bool) -> Task:
+    """The arcs of a sheet, as a task of whole places. Where it is not tied, centres have coordinates of their own, which come
+    after the others, though ends have the same."""
     rings: dict[tuple[Spot | None, float], int] = {}
     rounds = []
     size = float(max(high - low for low, high in sheet.ends))
@@ -200,45 +216,61 @@ def task_of(sheet: Sheet) -> Task:
         ring = rings.setdefault((it.centre, round(radius / size, 6)), len(rings))
         first, sweep = angles(it)
         ends = () if it.is_circle else (sheet.at(it.start), sheet.at(it.end))
-        rounds.append(Round(sheet.at(it.centre), ends, radius, first, sweep, ring))
+        rounds.append(Round(sheet.centre_at(it.centre, is_tied), ends, radius, first, sweep, ring))
     values = [[float(it - column[0]) for it in column] for column in sheet.values]
+    (x, across), (y, up) = (twins_of(it, float(sheet.noise)) if is_mirrored else (0.0, {}) for it in values)
+    if not is_tied:
+        values = [[*column, *column] for column in values]
     low, high = ([float(ends[side] - column[0]) for column, ends in zip(sheet.values, sheet.ends)] for side in (0, 1))
-    (x, across), (y, up) = (twins_of(it, float(sheet.noise)) for it in values)
     both = (values[0], values[1])
-    return Task(both, (low[0], low[1]), (high[0], high[1]), rounds, ordered(rounds), float(sheet.most), (x, y), (across, up))
+    hubs = frozenset(it.centre for it in rounds if not it.ends)
+    return Task(both, (low[0], low[1]), (high[0], high[1]), rounds, ordered(rounds), float(sheet.most), (x, y), (across, up), hubs)
 
 
 def round_layouts(sheet: Sheet, factor: Fraction | None) -> list[Layout]:
-    """Layouts at which the ends of each arc are equally far from its centre; arcs of one circle stay on one where that is found."""
-    task = task_of(sheet)
-    found: list[Answer] = []
-    shares = len({it.ring for it in task.rounds}) < len(task.rounds)
-    for one_ring in (True, False) if shares else (False,):
-        found = answers(task, trials(task, float(factor) if factor is not None else None), one_ring)
-        if found:
-            break
-    return [layout_of(sheet, task, it, factor) for it in found]
+    """Layouts at which the ends of each arc are equally far from its centre: of outlines that mirror themselves such as do, else
+    any; then with centres that need not be level with ends; at last with arcs that become two. Arcs of one circle stay on one
+    where that is found."""
+    given = float(factor) if factor is not None else None
+    for is_tied, is_mirrored, is_split in ((True, True, False), (True, False, False), (False, False, False), (False, False, True)):
+        task = task_of(sheet, is_tied, is_mirrored)
+        if is_mirrored and not any(task.twins):
+            continue
+        circles = len({it.ring for it in task.rounds})
+        splits = MOST_DISCS - circles if is_split else 0
+        shares = circles < len(task.rounds) and not is_split
+        for one_ring in (True, False) if shares else (False,):
+            found = answers(task, given, one_ring, splits)
+            if found:
+                return [layout_of(sheet, task, it, factor) for it in found]
+    return []
 
 
 def layout_of(sheet: Sheet, task: Task, answer: Answer, factor: Fraction | None) -> Layout:
     """The layout of an answer, moved into reach, with a simple factor and simple moves."""
-    wholes, reaches = [], []
+    wholes, reaches, starts = [], [], []
     for k, column in enumerate(sheet.values):
         low, high = (math.floor(it[k] * answer.factor + answer.shifts[k]) for it in (task.low, task.high))
         start = -low if high - low + 1 <= REACH else -low - (high + 1 - low) // 2
+        starts.append(start)
         wholes.append([it + start for it in answer.whole[k]])
         off = max(abs(float(v - column[0]) * answer.factor + answer.shifts[k] - t) for v, t in zip(column, answer.whole[k]))
         reaches.append(max(Fraction(off / answer.factor) * Fraction(101, 100), sheet.noise))
     rows = list(zip(sheet.values, wholes, reaches))
     scale = factor or Fraction(answer.factor)
     if factor is None:
-        ranges = [scale_range(column, whole, reach, scale) for column, whole, reach in rows if len(column) > 1]
+        ranges = [scale_range(column, whole[: len(column)], reach, scale) for column, whole, reach in rows if len(column) > 1]
         known = [it for it in ranges if it is not None]
         if known and len(known) == len(ranges):
             scale = simplest_between(max(it[0] for it in known), min(it[1] for it in known))
-    fits = [fit_to(column, whole, scale, simplest_move(column, whole, reach, scale)) for column, whole, reach in rows]
+    fits = [fit_to(column, whole[: len(column)], scale, simplest_move(column, whole[: len(column)], reach, scale)) for column, whole, reach in rows]
     spokes: dict[object, tuple[int, int]] = {sheet.rounds[at].key(): vector for at, vector in answer.spokes.items()}
-    return Layout(fits, spokes)
+    centres = {}
+    for it, one in zip(sheet.rounds, task.rounds):
+        assert it.centre is not None
+        centres[it.centre] = (wholes[0][one.centre[0]], wholes[1][one.centre[1]])
+    halves = {sheet.rounds[at]: it.moved(*starts) for at, it in answer.halves.items()}
+    return Layout(fits, spokes, centres, halves)
 
 
 def contours_of(sheet: Sheet, layout: Layout) -> list[list[Element]]:
@@ -252,11 +284,15 @@ def contours_of(sheet: Sheet, layout: Layout) -> list[list[Element]]:
     for outline in sheet.outlines:
         contour = []
         for it in outline:
-            centre = whole(it.centre) if it.centre is not None else None
+            centre = layout.centre(sheet, it.centre) if it.centre is not None else None
             if it.is_circle and centre is not None:
                 x, y = layout.spokes[it.key()]
                 start = (centre[0] + x, centre[1] + y)
                 contour.append(Element(start, start, centre, it.turn))
+            elif it in layout.halves:
+                half = layout.halves[it]
+                ways = [(whole(it.start), half.middle, half.before), (half.middle, whole(it.end), half.after)]
+                contour += [Element(start, end, centre, it.turn) for start, end, centre in ways]
             elif whole(it.start) != whole(it.end) or centre is not None:
                 contour.append(Element(whole(it.start), whole(it.end), centre, it.turn))
         if contour:
@@ -306,19 +342,32 @@ def arc_moved(sheet: Sheet, layout: Layout, piece: Piece) -> float:
     """How far an arc is from what it was, at most; 0 where centre and radius are exact."""
     assert piece.centre is not None
     first, second = layout.fits
-    i, j = sheet.at(piece.centre)
-    x = (first.whole[i] - first.move) / first.scale - piece.centre[0]
-    y = (second.whole[j] - second.move) / second.scale - piece.centre[1]
+    centre = layout.centre(sheet, piece.centre)
+    begin, sweep = angles(piece)
     if piece.is_circle:
         u, v = layout.spokes[piece.key()]
-    else:
-        a, b = sheet.at(piece.start)
-        u, v = first.whole[a] - first.whole[i], second.whole[b] - second.whole[j]
-    square = Fraction(u * u + v * v) / first.scale**2
-    if x == y == 0 and square == square_distance(piece.start, piece.centre):
+        return off_circle(layout, piece, centre, u * u + v * v, begin, sweep)
+    i, j = sheet.at(piece.start)
+    start = (first.whole[i], second.whole[j])
+    half = layout.halves.get(piece)
+    if half is None:
+        return off_circle(layout, piece, centre, limits.square(start, centre), begin, sweep)
+    x, y = (float((it - fit.move) / fit.scale - to) for it, fit, to in zip(half.middle, layout.fits, piece.centre))
+    part = piece.turn * (math.atan2(y, x) - begin) % math.tau * piece.turn
+    return max(
+        off_circle(layout, piece, half.before, limits.square(start, half.before), begin, part),
+        off_circle(layout, piece, half.after, limits.square(half.middle, half.after), begin + part, sweep - part),
+    )
+
+
+def off_circle(layout: Layout, piece: Piece, centre: tuple[int, int], square: int, begin: float, sweep: float) -> float:
+    """How far a part of an arc is from the circle about a whole centre, at most."""
+    assert piece.centre is not None
+    x, y = ((it - fit.move) / fit.scale - was for it, fit, was in zip(centre, layout.fits, piece.centre))
+    radius = Fraction(square) / layout.fits[0].scale ** 2
+    if x == y == 0 and radius == square_distance(piece.start, piece.centre):
         return 0.0
-    change = math.sqrt(square) - piece.radius()
-    begin, sweep = angles(piece)
+    change = math.sqrt(radius) - piece.radius()
     steps = (begin + sweep * k / 16 for k in range(17))
     return max(abs(float(x) * math.cos(it) + float(y) * math.sin(it) + change) for it in steps)
 
