@@ -10,18 +10,26 @@ import math
 from dataclasses import dataclass
 from fractions import Fraction
 
-from .decimals import greatest_common, simplest_between
+from .decimals import greatest_common, shown, simplest_between
+from .faults import Refused
 
 # whole coordinates go from -REACH to REACH
 REACH = 1023
 SPAN = 2 * REACH
-# an exact factor whose numerator and denominator are not above this is taken as it is
+# an exact factor whose numerator and denominator, without the zeros at their ends, are not above this is taken as it is
 PLAIN = 100_000
 # a part of fewer steps is enlarged, to at least so many
 TINY = Fraction(10)
 SEEN = Fraction(50)
 # how many numbers of steps are tried where no factor is exact
 MOST_VALUES = 400
+
+
+def check_reach(axis: str, span: Fraction, factor: Fraction) -> None:
+    """Refuses a factor at which the part is longer than whole coordinates reach."""
+    if span * factor > SPAN:
+        steps = float(span * factor)
+        raise Refused(f"the factor {shown(factor)} makes the part {steps:.6g} long in {axis}, and at most {SPAN} is allowed")
 
 
 @dataclass(frozen=True)
@@ -55,7 +63,7 @@ def exact_base(values: list[Fraction]) -> Fraction | None:
     """The least factor at which the values are whole apart from one move, where it is in reach and plain."""
     step = greatest_common([it - values[0] for it in values])
     scale = 1 / step
-    if (values[-1] - values[0]) * scale > SPAN or max(scale.numerator, scale.denominator) > PLAIN:
+    if (values[-1] - values[0]) * scale > SPAN or max(without_zeros(scale.numerator), without_zeros(scale.denominator)) > PLAIN:
         return None
     return scale
 
@@ -157,10 +165,14 @@ def multiple(base: Fraction, span: Fraction, target: Fraction | None) -> Fractio
 
 def plainness(value: Fraction) -> int:
     """How many digits a fraction has, without decimal zeros: their product with the denominator."""
-    numerator = value.numerator
-    while numerator % 10 == 0:
-        numerator //= 10
-    return numerator * value.denominator
+    return without_zeros(value.numerator) * value.denominator
+
+
+def without_zeros(value: int) -> int:
+    """A whole number above 0 without the zeros at its end."""
+    while value % 10 == 0:
+        value //= 10
+    return value
 
 
 def gap_shift(values: list[float], factor: float) -> tuple[float, float]:

@@ -19,7 +19,7 @@ from .dxf import layers_of, read_dxf
 from .faults import DeviceFault, Refused
 from .decimals import number, shown, shown_above
 from .pieces import Piece
-from .reading import DRAWING, READERS, contents, ending
+from .reading import DRAWING, contents, ending, read_mesh
 from .section import section
 from .made import Made, Wishes
 from .solids import made_solid
@@ -100,13 +100,14 @@ def made(name: str, wishes: Wishes) -> Made:
     if form == DRAWING:
         if wishes.plane is not None:
             raise Refused("--plane is for meshes, and this is a drawing")
-        contents(path)
+        if not contents(path).strip():
+            raise Refused("the file is empty")
         drawing = read_dxf(path, wishes.layer)
         layers = "the layer read is " + repr(wishes.layer) if wishes.layer is not None else layers_of(drawing) + "; --layer reads one"
         return made_outlines(drawing.pieces, replace(wishes, factors=factors_for(2, wishes)), drawing.notes, layers)
     if wishes.layer is not None:
         raise Refused("--layer is for drawings, and this is a mesh")
-    mesh = READERS[form](contents(path))
+    mesh = read_mesh(form, contents(path))
     if wishes.plane is None:
         return made_solid(mesh, replace(wishes, factors=factors_for(3, wishes)))
     lines, notes = section(mesh, wishes.plane)

@@ -9,12 +9,12 @@ from typing import Iterator
 
 from . import limits
 from .arcs import Answer, Round, Task, answers, ordered, spoke, twins_of
-from .axes import REACH, SPAN, Fit, exact_base, fit_to, multiple, near_base, placed, scale_range, shifted, simplest_move
+from .axes import REACH, SPAN, Fit, check_reach, exact_base, fit_to, multiple, near_base, placed, scale_range, shifted, simplest_move
 from .faults import Refused
 from .halves import Halves
 from .limits import MOST_DISCS, MOST_LINES, Element
 from .made import Made, Wishes
-from .decimals import from_double, shown_above, simplest_between
+from .decimals import from_double, simplest_between
 from .outlines import Outline, outlines_of, size_of
 from .pieces import Piece, Spot, angles, extent, square_distance
 from .rounding import choices, exact_fits, search
@@ -89,7 +89,7 @@ def made_outlines(pieces: list[Piece], wishes: Wishes, notes: list[str], layers:
     check_size(sheet, size)
     why = ""
     for batch in batches(sheet, wishes.factors):
-        best, other = best_of(sheet, batch, found.pieces)
+        best, other = best_of(sheet, batch, found.pieces, wishes)
         if best is not None:
             best.notes = [*notes, *found.notes]
             return best
@@ -157,6 +157,8 @@ class Kinks:
 
 def batches(sheet: Sheet, factors: list[Fraction] | None) -> Iterator[list[Layout]]:
     """Layouts to choose from: exact ones, and where none serves those that are near."""
+    for axis, (low, high), given in zip("xy", sheet.ends, factors or ()):
+        check_reach(axis, high - low, given)
     if sheet.rounds:
         if factors is not None and len(set(factors)) > 1:
             raise Refused("outlines with arcs need one factor for both axes")
@@ -300,7 +302,7 @@ def contours_of(sheet: Sheet, layout: Layout) -> list[list[Element]]:
     return found
 
 
-def best_of(sheet: Sheet, batch: list[Layout], pieces: list[Piece]) -> tuple[Made | None, str]:
+def best_of(sheet: Sheet, batch: list[Layout], pieces: list[Piece], wishes: Wishes) -> tuple[Made | None, str]:
     """The text with the fewest lines and circles, and of those the one that moves corners least; or why there is none."""
     best: tuple[int, float, Made] | None = None
     why = ""
@@ -309,10 +311,7 @@ def best_of(sheet: Sheet, batch: list[Layout], pieces: list[Piece]) -> tuple[Mad
         fault = limits.outline_fault(contours)
         distance = moved(sheet, layout, pieces)
         if fault is None and distance > float(sheet.most) * 1.0000001:
-            fault = (
-                f"a corner or an arc would move by {shown_above(distance)}, and at most {shown_above(float(sheet.most))} is allowed, "
-                "one part in 2,000 of the largest side; --coarse allows more"
-            )
+            fault = wishes.too_far("a corner or an arc", distance, sheet.most)
         if fault is not None:
             why = fault
             continue

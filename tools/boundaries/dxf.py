@@ -84,19 +84,19 @@ def opened(path: Path) -> Any:
     try:
         return ezdxf.readfile(str(path))
     except ezdxf.DXFError as error:
-        raise Refused(f"ezdxf cannot read the drawing: {first_line(error)}") from None
+        raise Refused(f"ezdxf cannot read the drawing: {one_line(error)}") from None
     except UnicodeError:
         raise Refused("the drawing has bytes that are no text in its encoding") from None
     except OSError as error:
-        raise Refused(f"the file is not a DXF drawing: {error.strerror or first_line(error)}") from None
-    except (ValueError, LookupError, TypeError, AttributeError) as error:
+        raise Refused(f"the file is not a DXF drawing: {error.strerror or one_line(error)}") from None
+    except (ValueError, LookupError, TypeError, AttributeError, StopIteration) as error:
         # (what ezdxf lets out where tags are missing or of another kind)
-        raise Refused(f"the drawing is damaged, and ezdxf cannot read it: {first_line(error)}") from None
+        raise Refused(f"the drawing is damaged, and ezdxf cannot read it: {one_line(error)}") from None
 
 
-def first_line(error: Exception) -> str:
-    """The first line of a message."""
-    return (str(error).splitlines() or [type(error).__name__])[0][:200]
+def one_line(error: Exception) -> str:
+    """A message as one line."""
+    return " ".join(str(error).split())[:200] or type(error).__name__
 
 
 class Reader:

@@ -6,8 +6,6 @@ import math
 from collections import Counter
 from dataclasses import dataclass
 
-from .faults import Refused
-
 Whole = tuple[int, int, int]
 
 REACH = 1023
@@ -54,9 +52,9 @@ def mesh_fault(faces: list[list[Whole]]) -> str | None:
         return f"a coordinate is past {REACH}"
     vertices = len({corner for face in faces for corner in face})
     if vertices > MOST_VERTICES:
-        return f"the mesh has {vertices:,} corners, and bcsg takes at most {MOST_VERTICES:,}"
+        return f"made whole the mesh has {vertices:,} corners, and bcsg takes at most {MOST_VERTICES:,}"
     if len(faces) > MOST_FACES:
-        return f"the mesh has {len(faces):,} faces, and bcsg takes at most {MOST_FACES:,}"
+        return f"made whole the mesh has {len(faces):,} faces, and bcsg takes at most {MOST_FACES:,}"
     planes = set()
     for face in faces:
         if not 3 <= len(face) <= MOST_CORNERS:
@@ -73,7 +71,7 @@ def mesh_fault(faces: list[list[Whole]]) -> str | None:
     if any(count % 2 for count in edges.values()):
         return "an edge belongs to an odd number of faces"
     if len(planes) > MOST_PLANES:
-        return f"the mesh has {len(planes)} planes, and bcsg takes at most {MOST_PLANES}"
+        return f"made whole the mesh has {len(planes)} planes, and bcsg takes at most {MOST_PLANES}"
     return None
 
 
@@ -129,18 +127,12 @@ def outline_fault(contours: list[list[Element]]) -> str | None:
         return f"the outlines have {count} lines and arcs, and bcsg takes at most {MOST_ELEMENTS}"
     lines, discs = lines_and_discs(contours)
     if lines > MOST_LINES:
-        return f"the outlines have {lines} distinct lines, chords of arcs counted, and bcsg takes at most {MOST_LINES}"
+        return f"made whole the outlines have {lines} lines, chords of arcs counted, and bcsg takes at most {MOST_LINES}"
     if discs > MOST_DISCS:
-        return f"the outlines have {discs} distinct circles, and bcsg takes at most {MOST_DISCS}"
+        return f"made whole the outlines have {discs} circles, and bcsg takes at most {MOST_DISCS}"
     return None
 
 
 def square(a: tuple[int, int], b: tuple[int, int]) -> int:
     """The square of the distance of two points."""
     return (a[0] - b[0]) ** 2 + (a[1] - b[1]) ** 2
-
-
-def check(fault: str | None, advice: str) -> None:
-    """Refuses where there is a fault."""
-    if fault is not None:
-        raise Refused(f"{fault}; {advice}")

@@ -51,7 +51,7 @@ class Corners:
         self.points = points
         self.reach = reach
         used = list(used)
-        widest = max((max(points[it][k] for it in used) - min(points[it][k] for it in used) for k in range(3)), default=1.0)
+        widest = max((max(points[it][k] for it in used) - min(points[it][k] for it in used) for k in range(3)))
         self.width = max(widest / 16, 4 * reach) or 1.0
         self.boxes: dict[tuple[int, int, int], list[int]] = defaultdict(list)
         for it in used:
@@ -91,6 +91,8 @@ class Corners:
 def mended(found: list[set[Edge]], points: Sequence[Vector], noise: float) -> tuple[list[set[Edge]], int]:
     """The borders, cut at each corner that stands on one of their edges, and how many edges were cut."""
     all_edges = set().union(*found) if found else set[Edge]()
+    if not all_edges:
+        return found, 0
     corners = Corners({it for ends in all_edges for it in ends}, points, (THIN + 1) * noise)
     parts = {}
     for ends in all_edges:

@@ -5,6 +5,8 @@ from __future__ import annotations
 from dataclasses import dataclass, field
 from fractions import Fraction
 
+from .decimals import near, shown_above
+
 # the most by which a corner is moved, in parts of the size, unless the caller asks for more
 MOST_MOVED = Fraction(1, 2000)
 COARSE = Fraction(1, 20)
@@ -23,6 +25,11 @@ class Wishes:
     def most(self, size: Fraction) -> Fraction:
         """The most by which a corner of something of this size may be moved."""
         return max(size * (COARSE if self.is_coarse else MOST_MOVED), self.join or Fraction(0))
+
+    def too_far(self, what: str, distance: float, most: Fraction) -> str:
+        """What to say where something would move farther than that."""
+        more = "" if self.is_coarse else "; --coarse allows more"
+        return f"{what} would move by {shown_above(distance)}, and at most {near(most)} is allowed{more}"
 
 
 @dataclass

@@ -95,16 +95,17 @@ def deep(found: list[tuple[float, int]], noise: float) -> float | None:
     return None
 
 
-def between(values: Iterable[float], low: float, high: float) -> list[float]:
-    """The middles between neighbouring values, and the ends, within a stretch."""
+def between(values: Iterable[float], low: float, high: float, share: float) -> list[float]:
+    """The points at a share of the way between neighbouring values, and the ends, within a stretch."""
     inner = sorted({low, high, *(it for it in values if low < it < high)})
-    return [a + 0.5137 * (b - a) for a, b in zip(inner, inner[1:]) if b - a > 1e-9 * (high - low)]
+    return [a + share * (b - a) for a, b in zip(inner, inner[1:]) if b - a > 1e-9 * (high - low)]
 
 
 def ways_in(low: Vector, high: Vector, points: Sequence[Vector], count: int) -> list[tuple[float, float]]:
     """Where ways are laid in a box: between the values of corners there, or as many at random."""
-    xs = between((it[0] for it in points), low[0], high[0])
-    ys = between((it[1] for it in points), low[1], high[1])
+    # (shares that differ, so that no way is laid along the diagonal of a square)
+    xs = between((it[0] for it in points), low[0], high[0], 0.5137)
+    ys = between((it[1] for it in points), low[1], high[1], 0.4619)
     draw = random.Random(3)
     ways = list(product(xs, ys)) if len(xs) * len(ys) <= 4 * count else []
     if len(ways) > count or not ways:
@@ -143,7 +144,7 @@ def pierce(a: Vector, b: Vector, triangle: Triangle) -> Vector | None:
     t = before / (before - after)
     place = (a[0] + t * (b[0] - a[0]), a[1] + t * (b[1] - a[1]), a[2] + t * (b[2] - a[2]))
     for u, v in ((p, q), (q, r), (r, p)):
-        if dot(normal, cross(minus(v, u), minus(place, u))) <= 1e-7 * dot(normal, normal):
+        if dot(normal, cross(minus(v, u), minus(place, u))) < -1e-7 * dot(normal, normal):
             return None
     return place
 

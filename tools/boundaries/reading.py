@@ -2,6 +2,7 @@
 
 from __future__ import annotations
 
+import re
 from pathlib import Path
 from typing import Callable
 
@@ -38,3 +39,14 @@ def contents(path: Path) -> bytes:
     if len(data) > MOST_BYTES:
         raise Refused(f"the file has more than {MOST_BYTES // 1024 // 1024} MiB, and at most that is read; export it coarser")
     return data
+
+
+def read_mesh(form: str, data: bytes) -> Mesh:
+    """The mesh of a file; a fault in a last line without an end is that of a file which was cut off there."""
+    try:
+        return READERS[form](data)
+    except Refused as fault:
+        place = re.match(r"line (\d+): ", str(fault))
+        if place is None or data.endswith((b"\n", b"\r")) or int(place[1]) < data.count(b"\n") + 1:
+            raise
+        raise Refused(f"the file is cut off in line {place[1]}: {str(fault)[place.end():]}") from None

@@ -13,11 +13,10 @@ from fractions import Fraction
 from itertools import product
 from typing import Iterator, Protocol
 
-from .axes import SEEN, SPAN, Fit, Trial, exact_base, multiple, near_base, placed, shifted, simple_fit, trials, whole_of
-from .faults import Refused
+from .axes import SEEN, SPAN, Fit, Trial, check_reach, exact_base, multiple, near_base, placed, shifted, simple_fit, trials, whole_of
 from .loops import Side
 from .mesh import Point
-from .decimals import least_common, shown
+from .decimals import least_common
 from .polygons import Vector, cross, length, minus, off_plane
 
 # how many trials of each axis are combined, where one, two or three axes are not exact
@@ -231,9 +230,7 @@ def given(part: Part, factors: list[Fraction]) -> Placing:
     """The placing at the factors that the caller gave, with the best move."""
     fits = []
     for name, column, factor in zip("xyz", part.values, factors):
-        steps = (column[-1] - column[0]) * factor
-        if steps > SPAN:
-            raise Refused(f"the factor {shown(factor)} makes the part {float(steps):.6g} long in {name}, and at most {SPAN} is allowed")
+        check_reach(name, column[-1] - column[0], factor)
         fits.append(placed(column, factor, part.noise) or shifted(column, factor))
     combination = tuple(Choice(list(it.whole), it.error, fit=it) for it in fits)
     return placing(part, combination)

@@ -13,7 +13,7 @@ from .limits import MOST_PLANES
 from .loops import Side, borders, mended, open_edges, sides
 from .made import Made, Wishes
 from .mesh import Mesh, Point
-from .decimals import near, shown_above
+from .decimals import near
 from .overlap import overlap
 from .planes import gather
 from .repair import repaired
@@ -62,44 +62,43 @@ def made_solid(mesh: Mesh, wishes: Wishes) -> Made:
     welded = weld(mesh, wishes.join)
     found, notes = gathered(welded)
     part = part_of(found, welded.exact, welded.noise, welded.size, wishes.most(welded.size))
-    if wishes.factors:
-        first = [given(part, wishes.factors)]
-    else:
-        first = placings(part)
-    best, why = best_of(first, part, welded)
+    first = [given(part, wishes.factors)] if wishes.factors else placings(part)
+    best, why = best_of(first, part, welded, wishes)
     if best is None:
         fine = first if wishes.factors else [*first, *fine_placings(part)]
-        best, other = best_of((repaired(part, it) for it in fine), part, welded)
+        best, why = best_of((repaired(part, it) for it in fine), part, welded, wishes)
     if best is None:
-        raise Refused(why or "no factor keeps the planes plane")
-    best.notes = [*mesh.notes, *welded.notes, *notes]
-    point = overlap(welded.faces, welded.near, float(welded.noise))
-    if point is not None:
-        low = [min(it[k] for it in welded.exact) for k in range(3)]
-        shown = ", ".join(f"{a + float(b):.6g}" for a, b in zip(point, low))
-        best.notes.append(f"warning: solids overlap, for example at ({shown}); bcsg counts crossings, so the result is hollow there")
+        raise Refused(why)
+    best.notes = [*welded.notes, *notes, *overlap_notes(welded)]
     return best
 
 
-def best_of(made: Iterable[Placing], part: Part, welded: Welded) -> tuple[Made | None, str]:
+def overlap_notes(welded: Welded) -> list[str]:
+    """The warning that solids overlap, where they do."""
+    point = overlap(welded.faces, welded.near, float(welded.noise))
+    if point is None:
+        return []
+    low = [min(it[k] for it in welded.exact) for k in range(3)]
+    shown = ", ".join(f"{float(a) + b:.6g}" for a, b in zip(low, point))
+    return [f"warning: solids overlap, for example at ({shown}); bcsg counts crossings, so the result is hollow there"]
+
+
+def best_of(made: Iterable[Placing], part: Part, welded: Welded, wishes: Wishes) -> tuple[Made | None, str]:
     """The text with the fewest planes, and of those the one that moves corners least; or why there is none."""
     best: tuple[int, float, Made] | None = None
-    why = ""
+    far, bent = "", ""
     for one in made:
         distance = moved(part, one, welded.members)
         if distance > float(part.most):
-            why = why or (
-                f"a corner would move by {shown_above(distance)}, and at most {shown_above(float(part.most))} is allowed, "
-                "one part in 2,000 of the largest side; --coarse allows more"
-            )
+            far = far or wishes.too_far("a corner", distance, part.most)
             continue
         faces = made_faces(part.sides, one.places)
         fault = limits.mesh_fault(faces)
         if fault is not None:
-            why = fault
+            bent = f"the mesh has {len(part.sides)} planes, but corners at whole coordinates bend some of them: {fault}"
             continue
         count = limits.count_planes(faces)
         if best is None or (count, distance) < best[:2]:
             scales, moves = [it.scale for it in one.fits], [it.move for it in one.fits]
             best = (count, distance, Made(off_text(faces), scales, moves, distance, f"planes {count}"))
-    return best[2] if best else None, why
+    return best[2] if best else None, bent or far

@@ -52,7 +52,7 @@ def weld(mesh: Mesh, join: Fraction | None) -> Welded:
         if side == 0:
             raise Refused(f"all corners have the same {name}: a flat mesh has no inside")
     noise = min(max(size * NOISE, mesh.step), size * MOST_NOISE)
-    places = joined(points, join) if join else points
+    places = joined(points, usage(mesh, used), join) if join else points
     columns = [one_value([it[k] for it in places], noise) for k in range(3)]
     found: dict[Point, int] = {}
     index = {}
@@ -92,20 +92,26 @@ def one_value(values: list[Fraction], noise: Fraction) -> list[Fraction]:
     return [stands[it] for it in values]
 
 
-def joined(points: list[Point], reach: Fraction) -> list[Point]:
-    """For each point the first one within reach of it: the same, or one before it that stands for others."""
+def usage(mesh: Mesh, used: list[int]) -> list[int]:
+    """How many faces have each corner."""
+    counts = Counter(it for face in mesh.faces for it in face)
+    return [counts[it] for it in used]
+
+
+def joined(points: list[Point], counts: list[int], reach: Fraction) -> list[Point]:
+    """For each point one within reach that stands for it and others: that of the most faces."""
+    total: Counter[Point] = Counter()
+    for point, count in zip(points, counts):
+        total[point] += count
     cells: dict[tuple[int, int, int], list[Point]] = {}
-    found = []
     known: dict[Point, Point] = {}
-    for point in points:
-        if point not in known:
-            x, y, z = (math.floor(it / reach) for it in point)
-            near = (it for i, j, k in product((-1, 0, 1), repeat=3) for it in cells.get((x + i, y + j, z + k), ()))
-            known[point] = next((it for it in near if square_distance(it, point) <= reach * reach), point)
-            if known[point] is point:
-                cells.setdefault((x, y, z), []).append(point)
-        found.append(known[point])
-    return found
+    for point, _ in total.most_common():
+        x, y, z = (math.floor(it / reach) for it in point)
+        near = (it for i, j, k in product((-1, 0, 1), repeat=3) for it in cells.get((x + i, y + j, z + k), ()))
+        known[point] = next((it for it in near if square_distance(it, point) <= reach * reach), point)
+        if known[point] is point:
+            cells.setdefault((x, y, z), []).append(point)
+    return [known[it] for it in points]
 
 
 def square_distance(a: Point, b: Point) -> Fraction:
