@@ -1,0 +1,1 @@
+"""Reads boundaries from the files of other programs, and makes their coordinates whole."""
