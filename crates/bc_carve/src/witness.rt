@@ -1,14 +1,14 @@
 //! The masks that show which elements of pieces are needed. An element is a piece, a literal or a hole.
-ghost use Rattle.std.specs.Prelude.{◌≡◌, IfOk};
+ghost use Rattle.std.specs.Prelude.{◌<◌, length, All, IfOk};
 ghost use Rattle.std.specs.List.{AllZip};
 ghost use Rattle.bc_carve.specs.Shape.{shapes};
 ghost use Rattle.bc_carve.specs.Carving.{AreHeld, NoneHeld};
 ghost use Rattle.bc_carve.specs.Cuts.{all_cuts};
+ghost use Rattle.bc_carve.specs.Steps.{IsFilled};
 ghost use Rattle.bc_carve.specs.Witnesses.{IsShown};
 
 use crate::Piece;
-use crate::cuts::cuts_of;
-use crate::piece::is_held;
+use crate::flips::{add_flips, elements_in};
 use bc_num::Memory;
 use sqlite_items::Items;
 use std::alloc::Global;
@@ -22,21 +22,16 @@ pub enum Witness {
     Outside(usize),
 }
 
-// A mask that comes out wrong with these pieces.
-fn witness_of(inside: &[u64], outside: &[u64], pieces: &[Piece]) -> Option<Witness>
-    ensures { IsShown inside.now outside.now (shapes pieces.now) result }
+// Gives the witness to those of the places that have none.
+fn fill(shown: &mut Vec<Option<Witness>>, places: &[usize], witness: Witness)
+    requires { All (λ place. place < length shown.old.items) places.now }
+    ensures { IsFilled places.now witness shown.old.items shown.new.items }
 {
-    for (place, mask) in inside.iter().enumerate() {
-        if !is_held(pieces, *mask) {
-            return Some(Witness::Inside(place));
+    for place in places {
+        if shown[*place].is_none() {
+            shown[*place] = Some(witness);
         }
     }
-    for (place, mask) in outside.iter().enumerate() {
-        if is_held(pieces, *mask) {
-            return Some(Witness::Outside(place));
-        }
-    }
-    None
 }
 
 /// For each element of the pieces a mask that comes out wrong without it, if there is one: an inside mask that is not held
@@ -52,10 +47,17 @@ pub fn witnesses(
     requires free { NoneHeld outside.now (shapes pieces.now) }
     ensures { IfOk result (AllZip (IsShown inside.now outside.now) (all_cuts (shapes pieces.now))) }
 {
-    let cuts = cuts_of(alloc, pieces)?;
-    let mut shown = Items::new(alloc);
-    for cut in &cuts {
-        shown.push(witness_of(inside, outside, cut.as_slice()))?;
+    let mut shown = vec![in alloc; None; elements_in(pieces)]?;
+    let mut places = Vec::new(alloc);
+    for (place, mask) in inside.iter().enumerate() {
+        places.clear();
+        add_flips(pieces, *mask, 0, &mut places)?;
+        fill(&mut shown, &places, Witness::Inside(place));
     }
-    Ok(shown)
+    for (place, mask) in outside.iter().enumerate() {
+        places.clear();
+        add_flips(pieces, *mask, 0, &mut places)?;
+        fill(&mut shown, &places, Witness::Outside(place));
+    }
+    Ok(Items::from_vec(shown))
 }

@@ -1,8 +1,10 @@
-use Rattle.std.proofs.Common.{take, map}
-use Rattle.std.specs.List.{AllZip}
+use Rattle.std.proofs.Common.{length}
 use Rattle.bc_carve.specs.Shape.{shapes}
-use Rattle.bc_carve.specs.Witnesses.{IsShown}
+use Rattle.bc_carve.proofs.WitnessFacts.{AreSoFar}
 use Rattle.bc_carve.proofs.witness.witnesses.Given as goal
 
-abbrev pub invariant-loop-cut : goal.invariant-loop-cut
-invariant-loop-cut l = AllZip (IsShown l.inside l.outside) (map shapes (take l.cut-index l.cut-items)) l.shown
+abbrev pub invariant-loop-place : goal.invariant-loop-place
+invariant-loop-place l = AreSoFar l.inside l.outside l.place 0 (shapes l.pieces) l.shown.items
+
+abbrev pub invariant-loop-place-2 : goal.invariant-loop-place-2
+invariant-loop-place-2 l = AreSoFar l.inside l.outside (length l.inside) l.place (shapes l.pieces) l.shown.items
