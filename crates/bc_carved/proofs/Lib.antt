@@ -3,3 +3,6 @@ mod Made
 pub mod Meaning
 pub mod Counted
 pub mod Allowed
+mod Numbers
+pub mod PartFacts
+pub mod Rising

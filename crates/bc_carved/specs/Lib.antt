@@ -1,3 +1,5 @@
 pub mod Carved
 pub mod Counts
 pub mod Meanings
+pub mod Parts
+pub mod Laws

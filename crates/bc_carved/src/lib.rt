@@ -3,5 +3,6 @@
 #![tactic(auto)]
 
 mod build;
+pub mod laws;
 
 pub use build::carved_tree;

@@ -1,0 +1,27 @@
+-- Laws of the parts of a carving and of their places.
+use Rattle.std.specs.Prelude.{ℕ, ◌≡◌, ◌≤◌, List, map, length, Some, slice_get}
+use Rattle.std.specs.List.{All}
+use Rattle.bc_tree.specs.declared.tree.Leaf.{Leaf}
+use Rattle.bc_tree.specs.Shape.{Shape, size}
+use Rattle.bc_notes.specs.Nodes.{nodes}
+use Rattle.bc_carve.specs.Shape.{Shapes as Pieces, EachProduct}
+use Rattle.bc_carve.specs.Carving.{IsProduct}
+use Rattle.bc_carve.specs.Cuts.{all_cuts}
+use Rattle.bc_carved.specs.Carved.{carved_shape}
+use Rattle.bc_carved.specs.Parts.{Part, parts, places, Rise}
+
+-- the parts are what is taken out in all ways, in the same order
+abbrev pub PartsAreCuts : Type 0
+PartsAreCuts = (block : Leaf) (leaves : List Leaf) (ss : Pieces) → map (λ p. p.without) (parts block leaves ss) ≡ all_cuts ss
+
+-- the node of the part's number, if it has one, is its tree
+abbrev pub IsPlaced : Shape → Part Pieces → Type 0
+IsPlaced t p = (n : ℕ) → p.place ≡ Some n → slice_get (nodes t) n ≡ Some p.node
+
+-- in the tree of a carving over at most 64 half-spaces each part stands at its place
+abbrev pub PartsStand : Type 0
+PartsStand = (block : Leaf) (leaves : List Leaf) (ss : Pieces) → length leaves ≤ 64 → EachProduct (IsProduct (length leaves)) ss → All (IsPlaced (carved_shape block leaves ss)) (parts block leaves ss)
+
+-- and the places ascend strictly
+abbrev pub PlacesRise : Type 0
+PlacesRise = (block : Leaf) (leaves : List Leaf) (ss : Pieces) → length leaves ≤ 64 → EachProduct (IsProduct (length leaves)) ss → Rise 0 (size (carved_shape block leaves ss)) (places block leaves ss)
