@@ -6,3 +6,4 @@ pub mod Allowed
 mod Numbers
 pub mod PartFacts
 pub mod Rising
+mod Placing

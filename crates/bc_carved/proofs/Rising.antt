@@ -129,3 +129,9 @@ places_rise block leaves (piece s (piece t ss)) few of =
     let list = map (λ p. p.place) (piece_parts block leaves 3 all) in
     rise_from 0 3 (size (carved_shape block leaves all)) list (omega arith)
     (subst (λ (e : ℕ). Rise 3 e list) (omega arith) (pieces_rise block leaves few 3 all of))
+
+-- below a greater number too
+pub rise_early : (n m k : ℕ) (ps : List (Option ℕ)) → m ≤ k → Rise n m ps → Rise n k ps
+rise_early n m k [] le h = tt
+rise_early n m k (None ∷ ps) le h = rise_early n m k ps le h
+rise_early n m k (Some j ∷ ps) le h = (h.0, omega (arith, le, h.1), rise_early (j + 1) m k ps le h.2)

@@ -1,5 +1,5 @@
 -- Laws of the parts of a carving and of their places.
-use Rattle.std.specs.Prelude.{ℕ, ◌≡◌, ◌≤◌, List, map, length, Some, slice_get}
+use Rattle.std.specs.Prelude.{ℕ, ◌≡◌, ◌≤◌, ◌^◌, List, map, length, Option, Some, slice_get}
 use Rattle.std.specs.List.{All}
 use Rattle.bc_tree.specs.declared.tree.Leaf.{Leaf}
 use Rattle.bc_tree.specs.Shape.{Shape, size}
@@ -25,3 +25,8 @@ PartsStand = (block : Leaf) (leaves : List Leaf) (ss : Pieces) → length leaves
 -- and the places ascend strictly
 abbrev pub PlacesRise : Type 0
 PlacesRise = (block : Leaf) (leaves : List Leaf) (ss : Pieces) → length leaves ≤ 64 → EachProduct (IsProduct (length leaves)) ss → Rise 0 (size (carved_shape block leaves ss)) (places block leaves ss)
+
+-- the list has the places of the parts of a carving, whichever its block and its half-spaces are; each is below 2^100
+pub record ArePlaces (ss : Pieces) (list : List (Option ℕ)) : Type 0 where
+  pub are : (block : Leaf) (leaves : List Leaf) → length leaves ≤ 64 → EachProduct (IsProduct (length leaves)) ss → list ≡ places block leaves ss
+  pub early : (block : Leaf) (leaves : List Leaf) → length leaves ≤ 64 → EachProduct (IsProduct (length leaves)) ss → Rise 0 (2 ^ 100) list

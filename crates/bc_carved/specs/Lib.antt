@@ -3,3 +3,4 @@ pub mod Counts
 pub mod Meanings
 pub mod Parts
 pub mod Laws
+pub mod Steps
