@@ -5,5 +5,6 @@ pub mod Counted
 pub mod Allowed
 mod Numbers
 pub mod PartFacts
+pub mod Sharing
 pub mod Rising
 mod Placing

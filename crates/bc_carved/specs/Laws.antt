@@ -1,5 +1,5 @@
 -- Laws of the parts of a carving and of their places.
-use Rattle.std.specs.Prelude.{ℕ, ◌≡◌, ◌≤◌, ◌^◌, List, map, length, Option, Some, slice_get}
+use Rattle.std.specs.Prelude.{ℕ, ◌≡◌, ◌≤◌, ◌^◌, List, [], ◌∷◌, map, length, Option, None, Some, slice_get}
 use Rattle.std.specs.List.{All}
 use Rattle.bc_tree.specs.declared.tree.Leaf.{Leaf}
 use Rattle.bc_tree.specs.Shape.{Shape, size}
@@ -21,6 +21,20 @@ IsPlaced t p = (n : ℕ) → p.place ≡ Some n → slice_get (nodes t) n ≡ So
 -- in the tree of a carving over at most 64 half-spaces each part stands at its place
 abbrev pub PartsStand : Type 0
 PartsStand = (block : Leaf) (leaves : List Leaf) (ss : Pieces) → length leaves ≤ 64 → EachProduct (IsProduct (length leaves)) ss → All (IsPlaced (carved_shape block leaves ss)) (parts block leaves ss)
+
+-- the tree of a part, where it has a place
+abbrev pub placed_tree : Option ℕ → Shape → Option Shape
+placed_tree None t = None
+placed_tree (Some n) t = Some t
+
+-- a part without a place comes right behind one that has a place and the same tree
+abbrev pub Share : {A : Type 0} → Option Shape → List (Part A) → Type 0
+Share before [] = Unit {0}
+Share before (p ∷ ps) = (p.place ≡ None → before ≡ Some p.node) × Share (placed_tree p.place p.node) ps
+
+-- so a half-space has no place exactly where its whole piece is this one leaf, and that piece comes before it
+abbrev pub PartsShare : Type 0
+PartsShare = (block : Leaf) (leaves : List Leaf) (ss : Pieces) → length leaves ≤ 64 → EachProduct (IsProduct (length leaves)) ss → Share None (parts block leaves ss)
 
 -- and the places ascend strictly
 abbrev pub PlacesRise : Type 0
