@@ -32,7 +32,7 @@ abbrev pub Share : {A : Type 0} → Option Shape → List (Part A) → Type 0
 Share before [] = Unit {0}
 Share before (p ∷ ps) = (p.place ≡ None → before ≡ Some p.node) × Share (placed_tree p.place p.node) ps
 
--- so a half-space has no place exactly where its whole piece is this one leaf, and that piece comes before it
+-- so a half-space without a place is the leaf that its whole piece is, and that piece comes before it
 abbrev pub PartsShare : Type 0
 PartsShare = (block : Leaf) (leaves : List Leaf) (ss : Pieces) → length leaves ≤ 64 → EachProduct (IsProduct (length leaves)) ss → Share None (parts block leaves ss)
 

@@ -12,17 +12,20 @@ abbrev pub round_of : Leaf → Bool → List Shape
 round_of block true = leaf block ∷ []
 round_of block false = []
 
+-- one node where the test is true
 abbrev pub one_if : Bool → ℕ
 one_if b = if b then 1 else 0
 
+-- whether there is a piece
 abbrev pub are_some : Pieces → Bool
 are_some none = false
 are_some (piece s ss) = true
 
--- so many places from n on, or as many without a place
+-- the place n, where the part has a node of its own
 abbrev pub place_if : Bool → ℕ → Option ℕ
 place_if own n = if own then Some n else None
 
+-- as many parts, from n on
 abbrev pub numbered : Bool → ℕ → ℕ → List (Option ℕ)
 numbered own n zero = []
 numbered own n (suc k) = place_if own n ∷ numbered own (n + 1) k
