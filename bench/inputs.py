@@ -330,6 +330,8 @@ def commands(texts):
         (["trial", "off"], numbered("off", 10, 18, stair)),
         (["factor", "contour"], plain(contours)),
         (["factor", "off"], plain(meshes)),
+        (["carve", "contour"], plain(contours)),
+        (["carve", "off"], plain(meshes)),
         (["ask"], of_texts(contours[-7:-3], texts, flat) + of_texts(meshes[3:6], texts, solid)),
         (["upgrade"], of_texts(contours[-7:-3], texts) + of_texts(meshes[3:6], texts)),
         (["audit"], audited(meshes, texts)),

@@ -18,6 +18,8 @@ ONE_INPUT = [
     "convert off",
     "factor contour",
     "factor off",
+    "carve contour",
+    "carve off",
     "side contour -1 2 0 1",
     "side off -1 -2 -3 4",
     "ask -1 2 -3 4",

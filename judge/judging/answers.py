@@ -1,13 +1,11 @@
 """Lawful answers, made slowly from the definitions: for the judge's own tests and to edit in generated cases."""
 
-from __future__ import annotations
-
 from typing import Iterable, Sequence
 
 from .audits import Audit
 from .discs import samples
 from .factored import factored_tree
-from .formulas import Term, is_own, node_numbers, tree_of
+from .formulas import Term, elements_of, shows, tree_of
 from .prisms import laid_out, settings_of
 from .requests import Given, bytes_taken, read_given
 from .setting import Setting
@@ -18,7 +16,7 @@ from .verdicts import Run, forced, setting_of, summary
 
 
 def cover(masks: dict[int, bool], count: int) -> list[Term]:
-    """Terms that hold each odd mask and no even one, none of them idle in any part."""
+    """Terms that hold each odd mask and no even one, none of them redundant in any part."""
     even = [mask for mask, odd in masks.items() if not odd]
     terms: list[Term] = []
     for mask, odd in masks.items():
@@ -53,15 +51,11 @@ def shown(setting: Setting) -> Iterable[tuple[Point, int, bool]]:
 
 def notes_of(terms: list[Term], setting: Setting) -> dict[int, str]:
     """A true note before each term and each literal."""
-    notes, points = {}, list(shown(setting))
-    for node, at, bit in node_numbers(terms):
-        less = terms[at].without(bit)
-        found = "undecided"
-        for p, mask, odd in points:
-            if odd != bool(bit) and (less.holds(mask) if bit else is_own(terms, at, mask)):
-                found = spaced(p)
-                break
-        notes[node] = f"{'out' if bit else 'own'} {found}"
+    points = list(shown(setting))
+    notes = {}
+    for at, bit, node in elements_of(terms):
+        found = (spaced(p) for p, mask, odd in points if shows(terms, at, bit, mask, odd))
+        notes[node] = f"{'out' if bit else 'own'} {next(found, 'undecided')}"
     return notes
 
 

@@ -1,7 +1,5 @@
 """Audits: whether a mesh and a tree agree at each point of the box that is on no plane of either."""
 
-from __future__ import annotations
-
 import random
 import re
 from math import gcd

@@ -1,7 +1,5 @@
 """Cells of lines or planes in a box: from each vertex of the arrangement, the cells round it by their signs."""
 
-from __future__ import annotations
-
 from itertools import combinations
 from typing import Iterator
 
@@ -61,7 +59,7 @@ def both(v: Numbers) -> tuple[Numbers, Numbers]:
 def round_ray(rows: list[Numbers], zeros: list[int], ray: Numbers) -> Iterator[int]:
     """The signs round a ray of the planes that hold it: along each plane, then off it."""
     for at in zeros:
-        normal = rows[at][:-1]
+        normal = (*rows[at][:-1], 0)[:3]
         for along in both(cross(ray, normal)):
             above, rest = signs(rows, zeros, along)
             for off in both(normal):
@@ -76,14 +74,10 @@ def round_vertex(rows: list[Numbers], zeros: list[int]) -> set[int]:
         for at in zeros:
             masks += [mask | 1 << at for mask in masks]
         return set(masks)
-    found: set[int] = set()
     if size == 2:
-        for at in zeros:
-            normal = rows[at][:-1]
-            for along in both((normal[1], -normal[0])):
-                above, rest = signs(rows, zeros, along)
-                found.update(above | signs(rows, rest, off)[0] for off in both(normal))
-        return found
+        # Lines through a point are planes through the ray that stands on it.
+        return set(round_ray(rows, zeros, (0, 0, 1)))
+    found: set[int] = set()
     rays = [cross(rows[a], rows[b]) for a, b in combinations(zeros, 2)]
     for ray in {leading(ray) for ray in rays if any(ray)}:
         for along in both(ray):

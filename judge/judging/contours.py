@@ -1,8 +1,7 @@
 """Contours: the words and blocks of a text, its first fault, and the check of closed contours."""
 
-from __future__ import annotations
-
 import re
+from itertools import count
 from typing import Iterator, NamedTuple
 
 from .texts import BLANKS, NUMBER, REACH, Refusal, at_word, lines_of, whole_value
@@ -12,7 +11,7 @@ Place = tuple[int, int]
 IGNORED_G = {17, 20, 21, 40, 49, 54, 90, 94}
 MODES = {0, 1, 2, 3, 80}
 MOST_ELEMENTS = 512
-WORD = re.compile(rb"([A-Za-z])[ \t\r]*(" + NUMBER.pattern + rb")")
+PIECE = re.compile(rb"(?:[ \t\r]+|\([^)]*\))*+(?:([A-Za-z])[ \t\r]*(" + NUMBER.pattern + rb")|;|\Z)")
 
 
 class Element(NamedTuple):
@@ -34,32 +33,19 @@ class Element(NamedTuple):
         return None if self.centre is None else (*self.centre, self.square(self.a))
 
 
-class Word(NamedTuple):
-    """A letter, its number, and the word's number on its line."""
-
-    letter: str
-    number: bytes
-    nth: int
-
-
-def words_of(line: bytes, at: int) -> Iterator[Word]:
-    """The words of a line from left to right, up to bytes that begin no word."""
-    place, nth = 0, 0
+def words_of(line: bytes, at: int) -> Iterator[tuple[str, int | None]]:
+    """The words of a line from left to right with their whole values, up to bytes that begin no word."""
     if line.lstrip(BLANKS).startswith(b"%"):
         return
-    while place < len(line) and line[place : place + 1] != b";":
-        byte = line[place : place + 1]
-        if byte in BLANKS:
-            place += 1
-        elif byte == b"(" and line.find(b")", place) >= 0:
-            place = line.find(b")", place) + 1
-        else:
-            nth += 1
-            word = WORD.match(line, place)
-            if word is None:
-                raise at_word("BadWord", at, nth)
-            yield Word(word.group(1).decode().upper(), word.group(2), nth)
-            place = word.end()
+    place = 0
+    for nth in count(1):
+        piece = PIECE.match(line, place)
+        if piece is None:
+            raise at_word("BadWord", at, nth)
+        if piece[1] is None:
+            return
+        yield piece[1].decode().upper(), whole_value(piece[2])
+        place = piece.end()
 
 
 class Block:
@@ -69,34 +55,13 @@ class Block:
         self.mode: int | None = None
         self.ends = False
         self.numbers: dict[str, int] = {}
-        for word in words_of(line, at):
-            fault = self.take(word)
+        for nth, (letter, value) in enumerate(words_of(line, at), 1):
+            fault = self.take_general(value) if letter == "G" else self.take(letter, value)
             if fault:
-                raise at_word(fault, at, word.nth)
-
-    def take(self, word: Word) -> str | None:
-        """Adds a word; answers the name of its fault."""
-        value = whole_value(word.number)
-        if word.letter == "G":
-            return self.take_general(value)
-        if word.letter == "M":
-            self.ends |= value in (2, 30)
-            return None if value in (2, 30, *range(3, 10)) else "UnknownWord"
-        if word.letter not in "NFSTZXYIJ":
-            return "UnknownWord"
-        if word.letter in "NFST":
-            return None
-        if word.letter in self.numbers:
-            return "TwinWord"
-        if word.letter != "Z" and value is None:
-            return "NotWhole"
-        if word.letter in "XY" and abs(value or 0) > REACH:
-            return "TooFar"
-        self.numbers[word.letter] = value or 0
-        return None
+                raise at_word(fault, at, nth)
 
     def take_general(self, value: int | None) -> str | None:
-        """Adds a G word."""
+        """Adds a G word; answers the name of its fault."""
         if value == 91:
             return "Incremental"
         if value in MODES:
@@ -104,6 +69,20 @@ class Block:
             self.mode = value
             return "TwinWord" if twin else None
         return None if value in IGNORED_G else "UnknownWord"
+
+    def take(self, letter: str, value: int | None) -> str | None:
+        """Adds another word; answers the name of its fault."""
+        if letter not in "MNFSTZXYIJ" or (letter == "M" and value not in (2, 30, *range(3, 10))):
+            return "UnknownWord"
+        self.ends |= letter == "M" and value in (2, 30)
+        if letter in "MNFST":
+            return None
+        if letter in self.numbers:
+            return "TwinWord"
+        if letter != "Z" and value is None:
+            return "NotWhole"
+        self.numbers[letter] = value or 0
+        return "TooFar" if letter in "XY" and abs(value or 0) > REACH else None
 
     def has(self, letters: str) -> bool:
         """Whether a word with one of these letters stands."""

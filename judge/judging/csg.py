@@ -1,7 +1,5 @@
 """CSG text: its tokens, the tree that it spells, or its first fault."""
 
-from __future__ import annotations
-
 import re
 from typing import NamedTuple, NoReturn
 
@@ -99,7 +97,7 @@ class Reader:
         return tuple(result)
 
     def leaf(self, first: Token) -> Leaf:
-        """A leaf behind its first name, up to its `;`."""
+        """A leaf after its first name, up to its `;`."""
         matrix = self.numbers(MATRIX + " translate") if first.text == "multmatrix" else ()
         least = self.numbers(THREE)
         shape = self.take("cube", "square") if matrix else self.take(*SHAPES)
@@ -154,7 +152,7 @@ def read_tree(text: bytes) -> Tree:
     """The tree that a text spells, or its first fault."""
     reader = Reader(text)
     tree = reader.node()
-    behind = reader.next()
-    if behind.text:
-        fault("Extra", behind)
+    extra = reader.next()
+    if extra.text:
+        fault("Extra", extra)
     return tree

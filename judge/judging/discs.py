@@ -1,11 +1,8 @@
 """Candidates of lines and discs: the dropping rules, the two further rules of lean ones, and samples."""
 
-from __future__ import annotations
-
 from itertools import combinations
 from typing import Iterator, NamedTuple
 
-from .cells import Cells
 from .tables import Box, Table, walls_of
 from .vectors import Numbers, Point, disc_value, opposite
 

@@ -1,12 +1,10 @@
 """Factored formulas: the terms that a factored text says, and the one tree that the rule makes of them."""
 
-from __future__ import annotations
-
 import random
 from functools import reduce
 
-from .formulas import Term, Wrong, check_meaning, check_needed, check_points, leaves_at, plain_tree
-from .formulas import product_of, read_laid_out, side_of
+from .formulas import Term, Wrong, check_meaning, check_needed, check_points, leaves_at, plain_tree, products
+from .formulas import read_laid_out
 from .setting import Setting
 from .trees import Node, Tree
 
@@ -48,30 +46,10 @@ def factored_tree(terms: list[Term], setting: Setting) -> Tree:
     return Node("union", tuple(factored(terms, setting)))
 
 
-def products(tree: Tree, setting: Setting) -> list[Term]:
-    """The terms of a factored union, multiplied out."""
-    if not isinstance(tree, Node) or tree.operator != "union":
-        raise Wrong("a group has no union at its end")
-    result = []
-    for kid in tree.kids:
-        first = kid.kids[0] if isinstance(kid, Node) and kid.operator == "difference" else None
-        if not isinstance(kid, Node) or not isinstance(first, Node) or first.operator != "intersection":
-            raise Wrong("a child of a union is no difference of an intersection")
-        if first.kids[0] == setting.block:
-            result.append(product_of(kid, setting))
-        else:
-            taken, cut = side_of(first.kids[:-1], setting), side_of(kid.kids[1:], setting)
-            inner = products(first.kids[-1], setting)
-            result += [Term(term.taken | taken, term.cut | cut) for term in inner]
-    return result
-
-
 def check_factored(text: bytes, setting: Setting, count: int, dice: random.Random) -> None:
     """Wrong where a text is not the factored tree of terms that cover the masks of all candidates."""
     tree, _ = read_laid_out(text, setting.head(), False)
     terms = sorted(products(tree, setting))
-    if len(set(terms)) < len(terms):
-        raise Wrong("a term stands twice")
     if tree != factored_tree(terms, setting):
         raise Wrong("the text is not the factored tree of its terms")
     check_meaning(terms, setting.free, setting)

@@ -1,17 +1,15 @@
 """Is a text the formula of a boundary? Its head, layout, normal form, order, meaning, needs and notes."""
 
-from __future__ import annotations
-
 import random
 import re
 from math import gcd
-from typing import Iterable, NamedTuple
+from typing import Iterable, Iterator, NamedTuple
 
 from .csg import read_tree
 from .setting import Setting
 from .texts import Refusal, spaced
 from .trees import Leaf, Node, Tree, holds, layout
-from .vectors import Point, is_within
+from .vectors import is_within
 
 NOTE = re.compile(r" *// (own|out) (undecided|-?[0-9]{1,300}( -?[0-9]{1,300})+)")
 
@@ -28,11 +26,7 @@ class Term(NamedTuple):
 
     def holds(self, mask: int) -> bool:
         """Whether the product holds at the points of a mask."""
-        return mask & self.taken == self.taken and not mask & self.cut
-
-    def literals(self) -> list[int]:
-        """The bits of the literals in the order of the text: those taken, then those cut away."""
-        return [*bits_of(self.taken), *bits_of(self.cut)]
+        return not self.taken & ~mask and not mask & self.cut
 
     def without(self, bit: int) -> "Term":
         """The product once a literal is taken out."""
@@ -80,43 +74,30 @@ def read_laid_out(text: bytes, head: list[str], with_notes: bool) -> tuple[Tree,
 
 
 def side_of(leaves: Iterable[Tree], setting: Setting) -> int:
-    """The half-spaces that some leaves are, as bits; they have to stand in order."""
-    numbers = []
+    """The half-spaces that some leaves are, as bits."""
+    mask = 0
     for leaf in leaves:
         if not isinstance(leaf, Leaf) or leaf not in setting.leaves:
             raise Wrong(f"a literal is no half-space of the boundary: {leaf}")
-        numbers.append(setting.leaves.index(leaf))
-    if numbers != sorted(set(numbers)):
-        raise Wrong(f"literals are out of order: half-spaces {numbers}")
-    return sum(1 << number for number in numbers)
+        mask |= 1 << setting.leaves.index(leaf)
+    return mask
 
 
-def product_of(tree: Tree, setting: Setting) -> Term:
-    """The product that a difference says."""
-    if not isinstance(tree, Node) or tree.operator != "difference":
-        raise Wrong("a child of the union is no difference")
-    first = tree.kids[0]
-    if not isinstance(first, Node) or first.operator != "intersection" or first.kids[0] != setting.block:
-        raise Wrong("a difference does not begin with an intersection whose first child is the box")
-    term = Term(side_of(first.kids[1:], setting), side_of(tree.kids[1:], setting))
-    if term.taken & term.cut:
-        raise Wrong("a half-space stands twice in a term")
-    return term
-
-
-def terms_of(tree: Tree, setting: Setting) -> list[Term]:
-    """The terms of a tree in normal form."""
+def products(tree: Tree, setting: Setting) -> list[Term]:
+    """The terms of a union, those of its groups multiplied out."""
     if not isinstance(tree, Node) or tree.operator != "union":
-        raise Wrong("the text is no union")
-    terms = [product_of(kid, setting) for kid in tree.kids]
-    if terms != sorted(set(terms)):
-        raise Wrong("the terms do not ascend")
-    return terms
-
-
-def tree_of(terms: Iterable[Term], setting: Setting) -> Tree:
-    """The tree in normal form of some terms."""
-    return Node("union", tuple(plain_tree(term, setting) for term in terms))
+        raise Wrong("the text, or the last child of a group, is no union")
+    result = []
+    for kid in tree.kids:
+        match kid:
+            case Node("difference", (Node("intersection", (first, *rest)), *cuts)):
+                inner = [Term(0, 0)] if first == setting.block else products([first, *rest][-1], setting)
+                taken = side_of(rest if first == setting.block else [first, *rest][:-1], setting)
+                cut = side_of(cuts, setting)
+                result += [Term(term.taken | taken, term.cut | cut) for term in inner]
+            case _:
+                raise Wrong("a child of a union is no difference of an intersection")
+    return result
 
 
 def leaves_at(mask: int, setting: Setting) -> tuple[Tree, ...]:
@@ -130,6 +111,11 @@ def plain_tree(term: Term, setting: Setting) -> Tree:
     return Node("difference", (first, *leaves_at(term.cut, setting)))
 
 
+def tree_of(terms: Iterable[Term], setting: Setting) -> Tree:
+    """The tree in normal form of some terms."""
+    return Node("union", tuple(plain_tree(term, setting) for term in terms))
+
+
 def check_meaning(terms: list[Term], masks: dict[int, bool], setting: Setting) -> None:
     """The terms hold at exactly the odd ones of some masks."""
     for mask, odd in masks.items():
@@ -139,88 +125,63 @@ def check_meaning(terms: list[Term], masks: dict[int, bool], setting: Setting) -
             raise Wrong(f"the text is {'out' if odd else 'in'} at {where}, where the boundary is not")
 
 
+def elements_of(terms: list[Term]) -> Iterator[tuple[int, int, int]]:
+    """Each term with 0, and with the bit of each of its literals in turn, and the node that stands for it."""
+    node = 1
+    for at, term in enumerate(terms):
+        yield at, 0, node
+        node += 2  # the intersection and the block
+        for bit in [*bits_of(term.taken), *bits_of(term.cut)]:
+            node += 1
+            yield at, bit, node
+        node += 1
+
+
+def shows(terms: list[Term], at: int, bit: int, mask: int, odd: bool) -> bool:
+    """Whether the points of a mask show that a term (bit 0) is needed, or a literal of it."""
+    if bit:
+        return not odd and terms[at].without(bit).holds(mask)
+    return odd and terms[at].holds(mask) and sum(term.holds(mask) for term in terms) == 1
+
+
 def check_needed(terms: list[Term], masks: dict[int, bool]) -> None:
     """Each term alone holds an odd mask, and each literal keeps an even one out."""
-    odd = [mask for mask, is_odd in masks.items() if is_odd]
-    even = [mask for mask, is_odd in masks.items() if not is_odd]
-    held = [[at for at, term in enumerate(terms) if term.holds(mask)] for mask in odd]
-    alone = {at[0] for at in held if len(at) == 1}
-    for at, term in enumerate(terms):
-        if at not in alone:
-            raise Wrong(f"term {at} is idle: it holds no odd mask alone")
-        for bit in term.literals():
-            less = term.without(bit)
-            if not any(less.holds(mask) for mask in even):
-                raise Wrong(f"half-space {bit.bit_length() - 1} of term {at} is idle: it keeps no even mask out")
-
-
-def is_own(terms: list[Term], at: int, mask: int) -> bool:
-    """Whether this term alone holds at a mask."""
-    return [k for k, term in enumerate(terms) if term.holds(mask)] == [at]
-
-
-def node_numbers(terms: list[Term]) -> list[tuple[int, int, int]]:
-    """The node, the term and the literal (or 0) of each note that has to stand."""
-    result, node = [], 1
-    for at, term in enumerate(terms):
-        result.append((node, at, 0))
-        node += 3
-        for bit in term.literals():
-            result.append((node, at, bit))
-            node += 1
-    return result
+    for at, bit, _ in elements_of(terms):
+        if not any(shows(terms, at, bit, mask, odd) for mask, odd in masks.items()):
+            raise Wrong(f"{f'half-space {bit.bit_length() - 1} of ' if bit else ''}term {at} is redundant")
 
 
 def check_notes(terms: list[Term], notes: dict[int, str], setting: Setting) -> int:
     """Each note stands where it has to and is true; answers how many are undecided."""
-    places = node_numbers(terms)
-    if sorted(notes) != [node for node, _, _ in places]:
+    if list(notes) != [node for _, _, node in elements_of(terms)]:
         raise Wrong("notes do not stand before each term and each literal, and nowhere else")
-    undecided = 0
-    for node, at, bit in places:
+    for at, bit, node in elements_of(terms):
         name, rest = notes[node].split(" ", 1)
         if name != ("out" if bit else "own"):
             raise Wrong(f"the note before node {node} is `{name}`")
-        if rest == "undecided":
-            undecided += 1
-            check_undecided(terms, at, bit, setting, node)
-            continue
-        p = tuple(map(int, rest.split(" ")))
-        if spaced(p) != rest:
-            raise Wrong(f"the numbers of the note before node {node} are not plain")
-        fault = point_fault(p, setting) or use_fault(terms, at, bit, p, setting)
-        if fault:
-            raise Wrong(f"the note `{notes[node]}` before node {node}: the point {fault}")
-    return undecided
+        if rest != "undecided":
+            check_point(terms, at, bit, rest, setting)
+        elif any(shows(terms, at, bit, mask, odd) for mask, odd in setting.sampled.items()):
+            raise Wrong(f"the note before node {node} is undecided, and a sample shows what it says")
+    return sum(note.endswith("undecided") for note in notes.values())
 
 
-def point_fault(p: Point, setting: Setting) -> str | None:
-    """Why a point may not be printed at all."""
-    if len(p) != len(setting.box[0]) + 1 or p[-1] < 1:
-        return "has the wrong numbers"
-    if gcd(*p) != 1:
-        return "is not in lowest terms"
-    if not setting.is_free(p):
-        return "is not free"
-    return None if setting.is_sample(p) else "is no sample"
-
-
-def use_fault(terms: list[Term], at: int, bit: int, p: Point, setting: Setting) -> str | None:
-    """Why a free point does not show that a term, or a literal of it, is needed."""
-    mask = setting.table.mask(p)
-    if setting.is_odd(p) == bool(bit):
-        return "is odd" if bit else "is even"
-    if bit:
-        return None if terms[at].without(bit).holds(mask) else "is held off without the literal too"
-    return None if is_own(terms, at, mask) else "is not held by this term alone"
-
-
-def check_undecided(terms: list[Term], at: int, bit: int, setting: Setting, node: int) -> None:
-    """A note is undecided exactly where no sample shows what it says."""
-    less = terms[at].without(bit)
-    for mask, odd in setting.sampled.items():
-        if odd != bool(bit) and (less.holds(mask) if bit else is_own(terms, at, mask)):
-            raise Wrong(f"the note before node {node} is undecided, and a sample has mask {mask:b}")
+def check_point(terms: list[Term], at: int, bit: int, numbers: str, setting: Setting) -> None:
+    """A note names a point that may be printed and that shows what the note says."""
+    p = tuple(map(int, numbers.split(" ")))
+    if spaced(p) != numbers or len(p) != len(setting.box[0]) + 1 or p[-1] < 1:
+        fault = "has the wrong numbers"
+    elif gcd(*p) != 1:
+        fault = "is not in lowest terms"
+    elif not setting.is_free(p):
+        fault = "is not free"
+    elif not setting.is_sample(p):
+        fault = "is no sample"
+    elif not shows(terms, at, bit, setting.table.mask(p), setting.is_odd(p)):
+        fault = "is odd, or the term does not hold there without it" if bit else "is even, or not of this term alone"
+    else:
+        return
+    raise Wrong(f"the point {numbers} of a note of term {at} {fault}")
 
 
 def check_points(tree: Tree, setting: Setting, count: int, dice: random.Random) -> None:
@@ -243,7 +204,11 @@ def check_formula(
 ) -> tuple[list[Term], int]:
     """The terms and the number of undecided notes of a text, where it is a formula of the boundary."""
     tree, notes = read_laid_out(text, setting.head(), with_notes)
-    terms = terms_of(tree, setting)
+    terms = products(tree, setting)
+    if terms != sorted(set(terms)):
+        raise Wrong("the terms do not ascend")
+    if tree != tree_of(terms, setting):
+        raise Wrong("the text is not in normal form: a literal twice, out of order, or in a group")
     check_meaning(terms, setting.free, setting)
     check_needed(terms, setting.lean)
     undecided = check_notes(terms, notes, setting) if with_notes else 0

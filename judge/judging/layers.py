@@ -1,7 +1,5 @@
 """Layers: the sections of a text and its first fault."""
 
-from __future__ import annotations
-
 import re
 from typing import NamedTuple
 

@@ -1,17 +1,26 @@
-"""Random texts of contours and meshes, valid and near the limits, in the many ways that they may be written."""
-
-from __future__ import annotations
+"""Random contours and meshes, valid and near the limits, and their texts in the many ways that they may be written."""
 
 import random
-from typing import Sequence
+from pathlib import Path
+from typing import Callable, Sequence
 
 from .contours import Element, Place
 from .meshes import Face
 from .vectors import Vector
 
-Contour = list[Element]
+FOLDER = Path(__file__).resolve().parent.parent / "cases"
 TRIPLES = [(3, 4), (4, 3), (-3, 4), (3, -4), (5, 12), (-12, 5), (8, 15), (0, 5), (5, 0), (-5, 0), (0, -5)]
-SPACINGS = (b" ", b"  ", b"\t", b" \t ")
+Contour = list[Element]
+
+
+def read_pieces() -> dict[str, list[str]]:
+    """The pieces of `cases/pieces` by their names."""
+    lines = (FOLDER / "pieces").read_text().split("\n")
+    named = (line.split(" ", 1) for line in lines if line and not line.startswith("#"))
+    return {name: [piece.encode().decode("unicode_escape") for piece in rest.split("|")] for name, rest in named}
+
+
+PIECES = read_pieces()
 
 
 class Dice(random.Random):
@@ -29,24 +38,21 @@ class Dice(random.Random):
         """A size of coordinates: mostly small, seldom the greatest."""
         return self.choice((2, 4, 6, 10, 10, 30, 100, 400, 1023))
 
+    def piece(self, name: str) -> str:
+        """One of the pieces with a name."""
+        return self.choice(PIECES[name])
+
 
 def polygon(places: Sequence[Place]) -> Contour:
     """The edges between places, the last one to the first."""
-    ends = [*places[1:], places[0]]
-    return [Element(a, b) for a, b in zip(places, ends) if a != b]
+    return [Element(a, b) for a, b in zip(places, [*places[1:], places[0]]) if a != b]
 
 
 def rectilinear(dice: Dice) -> Contour:
     """A polygon along the axes."""
-    size, places = dice.size(), []
-    x, y = dice.place(size)
-    x0 = x
-    for _ in range(dice.randint(1, 4)):
-        places.append((x, y))
-        x = dice.randint(-size, size)
-        places.append((x, y))
-        y = dice.randint(-size, size)
-    return polygon([*places, (x, y), (x0, y)])
+    size, count = dice.size(), dice.randint(2, 4)
+    corners = [dice.place(size) for _ in range(count)]
+    return polygon([p for a, b in zip(corners, corners[1:] + corners[:1]) for p in (a, (b[0], a[1]))])
 
 
 def circle(centre: Place, off: Place, ccw: bool) -> Contour:
@@ -55,17 +61,26 @@ def circle(centre: Place, off: Place, ccw: bool) -> Contour:
     return [Element(start, start, centre, ccw)]
 
 
+def circle_in_arcs(dice: Dice) -> Contour:
+    """Arcs between whole places of one circle, forth and back."""
+    square, (x, y) = dice.choice((25, 50, 65, 325, 1105)), dice.place(20)
+    reach = range(-33, 34)
+    places = [(x + i, y + j) for i in reach for j in reach if i * i + j * j == square]
+    chosen = dice.sample(places, dice.randint(2, 4))
+    return [Element(a, b, (x, y), dice.odds(60)) for a, b in zip(chosen, chosen[1:] + chosen[:1])]
+
+
 def arcs(dice: Dice) -> Contour:
-    """A contour of arcs and edges."""
+    """A contour of arcs and edges; some of its arcs may have ends at two distances."""
     size = min(dice.size(), 400)
     start = at = dice.place(size)
     result = []
     for _ in range(dice.randint(1, 4)):
+        i, j = dice.choice([*TRIPLES, dice.place(max(2, size // 2))])
         if dice.odds(40):
             end = dice.place(size)
             result.append(Element(at, end))
         else:
-            i, j = dice.choice([*TRIPLES, dice.place(max(2, size // 2))])
             end = (at[0] + i + dice.choice((i, -i, j, -j)), at[1] + j + dice.choice((j, -j)))
             if (end[0] - at[0] - i) ** 2 + (end[1] - at[1] - j) ** 2 != i * i + j * j:
                 end = dice.choice((at, (at[0] + 2 * i, at[1] + 2 * j), (at[0] + i - j, at[1] + j + i)))
@@ -78,67 +93,54 @@ def touching(dice: Dice) -> list[Contour]:
     """Circles and squares that touch one another, from within or without, or cross at one place."""
     (cx, cy), (i, j) = dice.place(20), dice.choice(TRIPLES)
     k, m = dice.randint(1, 3), dice.randint(1, 3)
-    whole = [circle((cx, cy), (k * i, k * j), dice.odds(50))]
     other = dice.choice((k + m, k - m, k, 0, m - k, 2 * k))
+    whole = [circle((cx, cy), (k * i, k * j), dice.odds(50))]
     whole.append(circle((cx + other * i, cy + other * j), (m * i, m * j), dice.odds(50)))
-    reach = 5 * k
     if dice.odds(60):
-        x, y = cx - reach, cy - reach
-        whole.append(polygon([(x, y), (x + 2 * reach, y), (x + 2 * reach, y + dice.randint(1, 20)), (x, y + reach)]))
+        x, y, side = cx - 5 * k, cy - 5 * k, 10 * k
+        whole.append(polygon([(x, y), (x + side, y), (x + side, y + dice.randint(1, 20)), (x, y + 5 * k)]))
     return whole
 
 
 def crowded(dice: Dice) -> list[Contour]:
     """Many discs that are nearly one."""
-    centre, off = dice.place(5), dice.choice([*TRIPLES, (7, 1), (30, 40)])
+    (x, y), (i, j) = dice.place(5), dice.choice([*TRIPLES, (7, 1), (30, 40)])
     return [
-        circle((centre[0] + dice.randint(-2, 2), centre[1] + dice.randint(-2, 2)),
-               (off[0] + dice.randint(-1, 1), off[1]), dice.odds(50))
+        circle((x + dice.randint(-2, 2), y + dice.randint(-2, 2)), (i + dice.randint(-1, 1), j), dice.odds(50))
         for _ in range(dice.choice((3, 4, 5, 6, 10)))
     ]
 
 
 def at_limits(dice: Dice) -> list[Contour]:
-    """So many lines, discs or elements that a limit is met, passed or just not."""
-    kind = dice.choice(("lines", "discs", "elements", "far"))
-    if kind == "lines":
-        count = dice.choice((39, 40, 41, 60))
-        if dice.odds(50):
-            return [polygon([(k * 7 - 500, 0), (k * 7 - 500, 9), (k * 7 - 495, 9)]) for k in range((count - 2) // 2)]
-        return [polygon([dice.place(900) for _ in range(count)])]
-    if kind == "discs":
-        return [circle((12 * k - 60, 0), (5, 0), True) for k in range(dice.choice((9, 10, 11, 14)))]
-    if kind == "elements":
-        return [polygon([(k % 2, k // 2) for k in range(dice.choice((511, 512, 513)))])]
+    """About as many lines as are taken, or coordinates as far as they go."""
+    kind = dice.randrange(3)
+    if kind == 0:
+        return [polygon([dice.place(900) for _ in range(dice.choice((39, 40, 41, 60)))])]
+    if kind == 1:
+        return [polygon([(7 * k, 0), (7 * k, 9), (7 * k + 5, 9)]) for k in range(dice.choice((18, 19, 20)))]
     centre = (dice.choice((-1023, 1023)), dice.choice((-1023, 1023)))
     return [circle(centre, (-2 * centre[0], -2 * centre[1]), True), polygon([centre, (0, 0), (-centre[0], 1)])]
 
 
-def contours(dice: Dice) -> list[Contour]:
-    """Contours of any kind."""
-    roll = dice.randint(0, 99)
-    if roll < 4:
-        return []
-    if roll < 9:
-        return at_limits(dice)
-    if roll < 23:
-        return touching(dice)
-    if roll < 30:
-        return crowded(dice)
+def mixed(dice: Dice) -> list[Contour]:
+    """Some contours of any kind; one may stand twice."""
     result = []
     for _ in range(dice.choice((1, 1, 1, 2, 2, 3))):
         size = dice.size()
-        kind = dice.randint(0, 4)
+        kind = dice.randint(0, 5)
         if kind == 0:
             result.append(polygon([dice.place(size) for _ in range(dice.randint(3, 6))]))
         elif kind == 1:
-            result.append(rectilinear(dice))
-        elif kind == 2:
-            off = dice.choice([*TRIPLES, (1, 0), (7, 1)])
-            result.append(circle(dice.place(size // 2), off, dice.odds(50)))
+            result.append(circle(dice.place(size // 2), dice.choice([*TRIPLES, (1, 0), (7, 1)]), dice.odds(50)))
         else:
-            result.append(arcs(dice))
+            result.append((rectilinear, circle_in_arcs, arcs, arcs)[kind - 2](dice))
     return result + result[:1] if dice.odds(6) else result
+
+
+def contours(dice: Dice) -> list[Contour]:
+    """Contours of any kind."""
+    makers: list[Callable[[Dice], list[Contour]]] = [lambda _: [], at_limits, touching, crowded, mixed]
+    return dice.choices(makers, (4, 5, 14, 7, 70))[0](dice)
 
 
 def spelled(value: int, dice: Dice) -> str:
@@ -148,34 +150,30 @@ def spelled(value: int, dice: Dice) -> str:
 
 
 def contour_text(whole: list[Contour], dice: Dice) -> bytes:
-    """The text of some contours. What is modal is mostly left out in the loose style."""
+    """The text of some contours. In the loose style what is modal is often left out, and numbers are spelled anyhow."""
     loose = dice.odds(50)
     lines: list[str] = ["%", "(made) G21 G90"] if loose and dice.odds(50) else []
-    at: Place = (0, 0)
-    mode = ""
+    at, mode = (0, 0), ""
 
-    def words(new: str, end: Place, rest: str = "") -> str:
+    def block(new: str, end: Place, rest: list[str]) -> None:
         nonlocal mode, at
-        result = [] if loose and new == mode and dice.odds(70) else [new]
-        gap = dice.choice(("", " ", "  ")) if loose else " "
+        words = [] if loose and new == mode and dice.odds(70) else [new]
         for letter, old, number in zip("XY", at, end):
             if not (loose and old == number and dice.odds(60)):
-                result.append(letter + (spelled(number, dice) if loose else str(number)))
+                words.append(letter + (spelled(number, dice) if loose else str(number)))
         mode, at = new, end
-        line = gap.join(result + ([rest] if rest else []))
-        return line.lower() if loose and dice.odds(20) else line
+        line = (dice.choice(("", " ", "  ")) if loose else " ").join(words + rest)
+        lines.append(line.lower() if loose and dice.odds(20) else line)
 
     for contour in whole:
         if contour:
-            lines.append(words("G00", contour[0].a))
+            block("G00", contour[0].a, [])
         for element in contour:
-            rest = ""
-            if element.centre is not None:
-                rest = f"I{element.centre[0] - element.a[0]} J{element.centre[1] - element.a[1]}"
-            new = "G01" if element.centre is None else "G03" if element.ccw else "G02"
-            lines.append(words(new, element.b, rest))
+            (x, y), (i, j) = element.a, element.centre or element.a
+            rest = [f"I{i - x}", f"J{j - y}"] if element.centre else []
+            block("G01" if not rest else "G03" if element.ccw else "G02", element.b, rest)
             if loose and dice.odds(8):
-                lines.append(dice.choice("|(X1 Y1)|; G91|G00 Z5|N7 F100|%G18|M5|  \t|T1 M6 S9".split("|")))
+                lines.append(dice.piece("contour-idle"))
                 mode = "G00" if lines[-1] == "G00 Z5" else mode
     if dice.odds(40):
         lines += ["M30", dice.choice(("?", "G91", "%", "X9"))] if dice.odds(50) else ["M30"]
@@ -197,22 +195,19 @@ def pyramid(base: Face, apex: Vector) -> list[Face]:
 
 
 def solid(dice: Dice) -> list[Face]:
-    """A closed mesh of one part."""
+    """A mesh of one part, mostly closed."""
     size = min(dice.size(), 500)
     kind = dice.choice(("box", "box", "prism", "prism", "tetrahedron", "pyramid", "bipyramid", "stair"))
-    corner = dice.place(size)
-    high = dice.randint(1, size)
+    x, y = dice.place(size)
+    low, high = dice.randint(-size, size), dice.randint(1, size)
     if kind == "box":
         a, b = dice.randint(1, size), dice.randint(1, size)
-        x, y = corner
-        return extruded([(x, y), (x + a, y), (x + a, y + b), (x, y + b)], dice.randint(-size, size), (0, 0, high))
+        return extruded([(x, y), (x + a, y), (x + a, y + b), (x, y + b)], low, (0, 0, high))
     if kind == "stair":
-        places = [(0, 0), *(p for i in range(1, 3) for p in ((i - 1, i), (i, i))), (2, 0)]
-        return extruded(places, corner[0], (0, 0, high))
+        return extruded([(0, 0), (0, 1), (1, 1), (1, 2), (2, 2), (2, 0)], low, (0, 0, high))
     base = [dice.place(size) for _ in range(3 if kind == "tetrahedron" else dice.randint(3, 5))]
     if kind == "prism":
-        return extruded(base, dice.randint(-size, size), (*dice.place(3), high))
-    low = dice.randint(-size, size)
+        return extruded(base, low, (*dice.place(3), high))
     ground: Face = [(x, y, low) for x, y in base]
     faces = pyramid(ground, (*dice.place(size), low + high))
     if kind == "bipyramid":
@@ -222,37 +217,29 @@ def solid(dice: Dice) -> list[Face]:
 
 
 def mesh(dice: Dice) -> list[Face]:
-    """A closed mesh, mostly of few planes."""
+    """A mesh, mostly closed and of few planes."""
     roll = dice.randint(0, 99)
     if roll < 3:
         return []
     if roll < 6:
         count = dice.choice((37, 38, 39, 45))
         return extruded([(k * 20 - 400, k * (k + 1) // 2 - 700) for k in range(count)], 0, (0, 0, 7))
-    if roll == 6:
-        corners, times = dice.choice(((3, 21), (4, 16), (5, 13)))
-        return extruded([dice.place(9) for _ in range(corners)] * times, 0, (0, 0, 2))
     faces = [face for _ in range(dice.choice((1, 1, 1, 1, 2, 2))) for face in solid(dice)]
     if roll < 10:
         faces += [list(reversed(face)) for face in faces]
+    elif roll < 16:
+        at = dice.randrange(len(faces))
+        faces[at : at + 1] = [faces[at]] * dice.choice((0, 0, 2))
     if dice.odds(30):
-        faces = [tri for face in faces for tri in fan(face)]
+        faces = [[face[0], a, b] for face in faces for a, b in zip(face[1:], face[2:])]
     for at, face in enumerate(faces):
-        if dice.odds(30):
-            turn = dice.randrange(len(face))
-            faces[at] = face[turn:] + face[:turn]
-    if dice.odds(30):
-        dice.shuffle(faces)
-    return faces
-
-
-def fan(face: Face) -> list[Face]:
-    """A face cut into triangles from its first corner."""
-    return [[face[0], a, b] for a, b in zip(face[1:], face[2:])]
+        turn = dice.randrange(len(face)) if dice.odds(30) else 0
+        faces[at] = face[turn:] + face[:turn]
+    return dice.sample(faces, len(faces)) if dice.odds(30) else faces
 
 
 def mesh_text(faces: list[Face], dice: Dice) -> bytes:
-    """The OFF text of a mesh; places may stand more than once."""
+    """The OFF text of a mesh. In the loose style places may stand more than once, and numbers are spelled anyhow."""
     loose = dice.odds(40)
     places = sorted({corner for face in faces for corner in face})
     if loose:
@@ -261,15 +248,15 @@ def mesh_text(faces: list[Face], dice: Dice) -> bytes:
     where: dict[Vector, list[int]] = {}
     for at, place in enumerate(places):
         where.setdefault(place, []).append(at)
-    counts = f"{len(places)} {len(faces)} {dice.choice((0, 12, 7))}"
-    lines = [f"OFF {counts}"] if dice.odds(50) else ["OFF", counts]
+    gap = dice.choice((" ", "\n"))
+    lines = [f"OFF{gap}{len(places)} {len(faces)} {dice.choice((0, 12, 7))}"]
     for place in places:
         lines.append(" ".join(spelled(x, dice) if loose else str(x) for x in place))
     for face in faces:
         lines.append(" ".join(map(str, [len(face), *(dice.choice(where[corner]) for corner in face)])))
-        if loose and dice.odds(15):
-            lines[-1] += dice.choice((" 255 0 0", " x", "#c", "  # c", "\r", " 1 2 3 4"))
-        if loose and dice.odds(8):
-            lines.append(dice.choice(("", "# rem", " \t")))
-    text = "\n".join(lines).encode()
-    return (text.replace(b" ", dice.choice(SPACINGS)) if loose else text) + (b"\n" if dice.odds(90) else b"")
+        if loose and dice.odds(20):
+            lines[-1] += dice.piece("off-idle")
+    text = "\n".join(lines)
+    if loose:
+        text = text.replace(" ", dice.choice((" ", "  ", "\t", " \t ")))
+    return (text + ("\n" if dice.odds(90) else "")).encode()

@@ -1,7 +1,5 @@
 """Meshes: the rows of an OFF text, its first fault, and the check of closed meshes."""
 
-from __future__ import annotations
-
 from collections import Counter
 from itertools import combinations
 from typing import NoReturn
@@ -48,7 +46,7 @@ class Row:
         return value
 
     def end(self, ignored: int = 0) -> None:
-        """No more words than so many behind the last one read."""
+        """No more words than so many after the last one read."""
         if len(self.words) > self.at + ignored:
             raise at_word("Extra", self.line, self.at + ignored + 1)
 

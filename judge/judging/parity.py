@@ -1,13 +1,11 @@
 """Whether the ray straight down from a point crosses a boundary an odd number of times, as the definitions count."""
 
-from __future__ import annotations
-
 from typing import Callable
 
 from .contours import Element, Place
 from .meshes import Face, edges_of
 from .tables import Boundary, plane_of
-from .vectors import Numbers, Point, disc_value, dot, opposite
+from .vectors import Numbers, Point, Vector, disc_value, dot, opposite
 
 
 def crosses(a: Numbers, b: Numbers, p: Point) -> bool:
@@ -91,8 +89,8 @@ def is_odd_flat(elements: list[Element], p: Point) -> bool:
 
 
 def odd_of_faces(faces: list[Face]) -> Callable[[Point], bool]:
-    """The function that tells whether the faces that are crossed are odd in number."""
-    ready: list[tuple[Numbers, list[tuple[Numbers, Numbers]]]] = []
+    """A function: whether the faces that are crossed are odd in number."""
+    ready: list[tuple[Numbers, list[tuple[Vector, Vector]]]] = []
     for face in faces:
         row = plane_of(face)
         if row[2]:
@@ -114,7 +112,7 @@ def odd_of_faces(faces: list[Face]) -> Callable[[Point], bool]:
 
 
 def odd_of(boundary: Boundary) -> Callable[[Point], bool]:
-    """The function that tells whether the ray straight down from a point crosses a boundary an odd number of times."""
+    """A function: whether the ray straight down from a point crosses a boundary an odd number of times."""
     if boundary.kind == "contour":
         return lambda p: is_odd_flat(boundary.elements, p)
     return odd_of_faces(boundary.faces)

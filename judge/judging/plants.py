@@ -1,7 +1,5 @@
 """Wrong answers, planted: right ones of the table `cases/plants` spoiled, each of which the judge has to find."""
 
-from __future__ import annotations
-
 import re
 from itertools import combinations
 from typing import Callable, Iterator, NamedTuple
@@ -9,10 +7,10 @@ from typing import Callable, Iterator, NamedTuple
 from .answers import answer, cover, notes_of
 from .cases import Case
 from .csg import read_tree
-from .factored import factored_tree, products
-from .formulas import Term, tree_of
+from .factored import factored_tree
+from .formulas import Term, bits_of, products, tree_of
 from .requests import read_given
-from .rows import lines, table, told, unfolded
+from .rows import lines, run_with, table, unfolded
 from .setting import Setting
 from .trees import layout
 from .verdicts import Run, setting_of, verdict
@@ -29,7 +27,7 @@ class Plant(NamedTuple):
     wrong: Run
 
 
-def idle_literal(terms: list[Term], setting: Setting) -> list[Term]:
+def redundant_literal(terms: list[Term], setting: Setting) -> list[Term]:
     """The first term gets a literal that it has no need of: one that all its odd masks have alike."""
     first = terms[0]
     odd = [mask for mask, is_odd in setting.lean.items() if is_odd and first.holds(mask)]
@@ -41,7 +39,7 @@ def idle_literal(terms: list[Term], setting: Setting) -> list[Term]:
     raise AssertionError("each literal cuts the first term")
 
 
-def idle_term(terms: list[Term], setting: Setting) -> list[Term]:
+def redundant_term(terms: list[Term], setting: Setting) -> list[Term]:
     """A further term: what two of them have in common."""
     for one, other in combinations(terms, 2):
         both = Term(one.taken | other.taken, one.cut | other.cut)
@@ -63,9 +61,9 @@ CHANGES: dict[str, Change] = {
     "reversed": lambda terms, _: terms[::-1],
     "signs exchanged": lambda terms, _: sorted(Term(term.cut, term.taken) for term in terms),
     "all dropped": lambda terms, _: [],
-    "a literal dropped": lambda terms, _: [terms[0].without(terms[0].literals()[0]), *terms[1:]],
-    "an idle literal": idle_literal,
-    "an idle term": idle_term,
+    "a literal dropped": lambda terms, _: [terms[0].without(bits_of(terms[0].taken)[0]), *terms[1:]],
+    "a redundant literal": redundant_literal,
+    "a redundant term": redundant_term,
     "one for each mask": lambda _, setting: sorted(
         term_of_mask(mask, setting) for mask, odd in setting.free.items() if odd),
     "the first half-space dropped": lambda terms, _: [term.without(1) for term in terms],
@@ -75,7 +73,7 @@ CHANGES: dict[str, Change] = {
 
 
 def with_terms(case: Case, right: Run, change: str) -> Run:
-    """Other terms, with the notes that fit them best, or factored; the lines behind the text of a trial stay."""
+    """Other terms, with the notes that fit them best, or factored; the lines after the text of a trial stay."""
     setting = setting_of(read_given(*case))
     text, mark, rest = right.out.partition(b"trial ")
     terms = CHANGES[change](sorted(products(read_tree(text), setting)), setting)
@@ -90,13 +88,14 @@ def spoiled(case: Case, right: Run, how: str, what: str, more: str) -> Run:
     match how:
         case "sub":
             new = more.encode().decode("unicode_escape") if "\\x" in more else more
-            return right._replace(out=re.sub(what, new, right.out.decode(), count=1, flags=re.M).encode())
+            out = re.sub(what, new, right.out.decode(), count=1, flags=re.M)
+            return right._replace(out=out.encode("latin-1"))
         case "terms":
             return with_terms(case, right, what)
         case "as":
             return answer(what.split(), unfolded(more))._replace(read=right.read)
         case "says":
-            return told(what)
+            return run_with(what)
         case "ends":
             return right._replace(status=int(what))
         case "reads":

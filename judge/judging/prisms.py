@@ -1,7 +1,5 @@
 """Layers as they are written: one for each section, with a tree for its contours and no notes."""
 
-from __future__ import annotations
-
 import random
 
 from .formulas import Wrong, check_bytes, check_formula
@@ -20,9 +18,10 @@ def box_of_layers(given: Given, settings: list[Setting]) -> Box:
     """The box of all sections with their heights."""
     if not settings:
         return (-1, -1, -1), (1, 1, 1)
-    least, greatest = zip(*(setting.box for setting in settings))
-    lows, highs = zip(*((section.low, section.high) for section in given.sections))
-    return (*map(min, zip(*least)), min(lows) - 1), (*map(max, zip(*greatest)), max(highs) + 1)
+    low, high = min(section.low for section in given.sections), max(section.high for section in given.sections)
+    least = tuple(min(axis) for axis in zip(*(setting.box[0] for setting in settings)))
+    greatest = tuple(max(axis) for axis in zip(*(setting.box[1] for setting in settings)))
+    return least + (low - 1,), greatest + (high + 1,)
 
 
 def laid_out(given: Given, settings: list[Setting], trees: list[list[str]]) -> bytes:
@@ -49,8 +48,6 @@ def trees_in(text: bytes) -> list[list[str]]:
 def check_prism(text: bytes, given: Given, count: int, dice: random.Random) -> None:
     """Wrong where the text of layers is."""
     settings, trees = settings_of(given), trees_in(text)
-    if len(trees) != len(settings):
-        raise Wrong(f"{len(trees)} layers for {len(settings)} sections")
     check_bytes(text, laid_out(given, settings, trees), "layout of layers")
     for at, (setting, tree) in enumerate(zip(settings, trees)):
         try:

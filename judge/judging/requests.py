@@ -1,7 +1,5 @@
 """Command lines, the order of faults, and the boundaries that the bytes of each command say."""
 
-from __future__ import annotations
-
 import re
 from contextlib import contextmanager
 from typing import Callable, Iterator, NamedTuple, Sequence
@@ -92,7 +90,7 @@ def read_boundary(kind: str, text: bytes) -> Boundary:
 
 @contextmanager
 def inside(where: str) -> Iterator[None]:
-    """Refusals of what is done here are told as those of a part of the text."""
+    """Refusals of what is done here are reported as those of a part of the text."""
     try:
         yield
     except Refusal as refusal:

@@ -1,16 +1,14 @@
 """Worked rows: files with the words, the input and the output of one run each, and a table of short ones."""
 
-from __future__ import annotations
-
 import re
-from pathlib import Path
+from itertools import chain
 from typing import Iterator, NamedTuple
 
 from .cases import Case
+from .making import FOLDER
 from .verdicts import Run
 
-FOLDER = Path(__file__).resolve().parent.parent / "cases"
-STATUSES = {"usage:": 3, "refused:": 2, "out": 6}
+STATUSES = {"usage: ": 3, "refused: ": 2, "out of memory": 6}
 
 
 class Row(NamedTuple):
@@ -29,9 +27,9 @@ class Row(NamedTuple):
         return None if self.out == "free" or given == self.run.out else "the output is not that of the row"
 
 
-def told(line: str) -> Run:
+def run_with(line: str) -> Run:
     """The run that ends with a line: a refusal, an answer, or `free`, a text of which nothing is said here."""
-    status = STATUSES.get(line.split()[0], 0) if " " in line else 0
+    status = next((status for start, status in STATUSES.items() if line.startswith(start)), 0)
     answer = b"" if line == "free" else line.encode() + b"\n"
     return Run(status, b"", answer) if status else Run(0, answer, b"")
 
@@ -49,31 +47,52 @@ def table(name: str) -> Iterator[tuple[str, list[str]]]:
             yield f"{name} {number}", line.split(" | ")
 
 
+def again(found: re.Match[str]) -> str:
+    """A text that stands so many times, with the number of the time in the place of each `@`, or so much more."""
+    text, times = found[1], int(found[2])
+    if "@" not in text:
+        return text * times
+    return "".join(re.sub(r"@([+-]\d+)?", lambda sign: str(k + int(sign[1] or 0)), text) for k in range(times))
+
+
 def unfolded(text: str) -> bytes:
-    """The bytes of an input in a table: ` / ` is LF, `<..*3>` stands three times, with the number of the time for `@`."""
-
-    def again(found: re.Match[str]) -> str:
-        number = re.compile(r"@([+-]\d+)?")
-        return "".join(number.sub(lambda sign: str(k + int(sign[1] or 0)), found[1]) for k in range(int(found[2])))
-
-    plain = re.sub(r"<([^<>]*)\*(\d+)>", again, re.sub(r" /( |$)", "\n", text))
-    return plain.encode().decode("unicode_escape").encode("latin-1")
+    """The bytes of a text in a table: ` / ` is LF, `\\x41` a byte by its number, and `<..*3>` stands three times."""
+    plain = re.sub(r" /( |$)", "\n", text).encode().decode("unicode_escape")
+    return re.sub(r"<([^<>]*)\*(\d+)>", again, plain).encode("latin-1")
 
 
 def lines() -> Iterator[Row]:
-    """The rows of the table: command lines parted by `;`, the input, and the one line of the answer."""
-    for name, (commands, text, line) in table("lines"):
-        for words in commands.split(";"):
-            yield Row(f"{name} {words.split()[0]}", Case(words.split(), unfolded(text)), told(line), "free" if line == "free" else "exactly")
+    """The rows of the tables: command lines parted by `;`, the input, and the one line of the answer."""
+    for name, (commands, text, line) in chain(table("lines"), table("limits")):
+        for nth, words in enumerate(commands.split(";")):
+            case = Case(unfolded(words).decode().split(), unfolded(text))
+            yield Row(f"{name} {nth}", case, run_with(line), "free" if line == "free" else "exactly")
+
+
+def elsewhere() -> Iterator[Row]:
+    """The refused texts of the tables where other commands read them, by the table `elsewhere`."""
+    places = [fields for _, fields in table("elsewhere")]
+    for row in lines():
+        if row.run.status != 2 or len(row.case.data) > 9999:
+            continue
+        why, text = row.run.err.removeprefix(b"refused: ").decode().rstrip(), row.case.data
+        is_limit = why.startswith(("TooManyLines", "TooManyDiscs", "TooManyPlanes"))
+        for words, other, before, after, prefix, limits in places:
+            if words == " ".join(row.case.words) and not (is_limit and limits == "none"):
+                gap = b"\n" if after and text and not text.endswith(b"\n") else b""
+                case = Case(other.split(), unfolded(before) + text + gap + unfolded(after))
+                line = why if prefix == "as it is" or (is_limit and limits == "of both") else f"{prefix} {why}"
+                yield Row(f"{row.name} as {other}", case, run_with(f"refused: {line}"))
 
 
 def cuts() -> Iterator[Row]:
-    """A text cut behind each of its tokens: the next one is missing at the end."""
+    """A text cut after each of its tokens: the next one is missing at the end."""
     text = (FOLDER / "tetrahedron.case").read_text().partition(">>>>")[2].partition("\n")[2]
     ends = [found.end() for found in re.finditer(r"//.*|(\w+|-\d+|[^\w\s])", text) if found[1]]
     for nth, end in enumerate(ends[:-1], 2):
         place = f"line {text.count(chr(10), 0, end) + 2} token {nth}"
-        yield Row(f"cut {nth}", Case("ask 0 0 0 1".split(), text[:end].encode()), told(f"refused: BadShape {place}"))
+        case = Case("ask 0 0 0 1".split(), text[:end].encode())
+        yield Row(f"cut {nth}", case, run_with(f"refused: BadShape {place}"))
 
 
 def files() -> Iterator[Row]:
@@ -87,7 +106,8 @@ def files() -> Iterator[Row]:
 
 def examples() -> Iterator[Row]:
     """The inputs of the project's own examples, converted and factored."""
-    commands = {".off": ("convert off", "factor off"), ".ngc": ("convert contour", "factor contour"), ".layers": ("prism",)}
+    contours = ("convert contour", "factor contour")
+    commands = {".off": ("convert off", "factor off"), ".ngc": contours, ".layers": ("prism",)}
     for path in sorted((FOLDER.parent.parent / "examples").iterdir()):
         for words in commands.get(path.suffix, ()):
             yield Row(f"{path.name} {words}", Case(words.split(), path.read_bytes()), Run(0, b"", b""), "free")
@@ -95,4 +115,4 @@ def examples() -> Iterator[Row]:
 
 def all_rows() -> list[Row]:
     """All worked rows."""
-    return [*lines(), *cuts(), *files(), *examples()]
+    return [*lines(), *elsewhere(), *cuts(), *files(), *examples()]

@@ -1,7 +1,5 @@
 """One or two boundaries with all that a text is judged by: half-spaces, masks with points, candidates, parities."""
 
-from __future__ import annotations
-
 from collections import Counter
 from functools import cached_property
 from typing import Callable, Sequence
@@ -14,11 +12,11 @@ from .tables import Boundary, box_leaf, box_of, joined, table_of
 from .texts import spaced
 from .vectors import Point, is_within
 
-TRUTHS: dict[str, Callable[..., bool]] = {
-    "": lambda one: one,
-    "union": lambda one, other: one or other,
-    "intersection": lambda one, other: one and other,
-    "difference": lambda one, other: one and not other,
+TRUTHS: dict[str, Callable[[list[bool]], bool]] = {
+    "": lambda odd: odd[0],
+    "union": any,
+    "intersection": all,
+    "difference": lambda odd: odd[0] and not odd[1],
 }
 
 
@@ -44,7 +42,7 @@ class Setting:
 
     def is_odd(self, p: Point) -> bool:
         """Whether the operation is true of the crossings at a point, by their definition."""
-        return self.truth(*(odd(p) for odd in self.odds))
+        return self.truth([odd(p) for odd in self.odds])
 
     def is_free(self, p: Point) -> bool:
         """Whether a point is strictly inside the box and on no half-space."""
@@ -78,7 +76,7 @@ class Setting:
             flips = [flips_of(part.elements, self.table.discs, p) for part in self.parts]
             for chosen in sets_of(rules_of(self.box, self.table, region, corners, lean)):
                 odd = [one != bool((chosen & bits).bit_count() % 2) for one, bits in zip(straight, flips)]
-                result[region | chosen << len(self.rows)] = self.truth(*odd)
+                result[region | chosen << len(self.rows)] = self.truth(odd)
         return result
 
     @cached_property

@@ -1,7 +1,5 @@
 """The masks of lines and discs that have a point, exactly: columns between the places where curves meet or turn."""
 
-from __future__ import annotations
-
 from fractions import Fraction
 from functools import cmp_to_key
 from itertools import combinations
@@ -9,7 +7,7 @@ from math import isqrt
 from typing import Iterator, NamedTuple
 
 from .tables import Box, Table, walls_of
-from .vectors import Numbers, Point
+from .vectors import Numbers, Point, cross
 
 
 class Root(NamedTuple):
@@ -25,6 +23,11 @@ class Root(NamedTuple):
         root = isqrt(self.under << (2 * bits))
         low = (self.whole << bits) + (root if self.sign > 0 else -root - 1 if self.sign else 0)
         return low // self.over
+
+
+def ratio(whole: int, over: int) -> Root:
+    """A rational number."""
+    return Root(whole, 0, 0, over) if over > 0 else Root(-whole, 0, 0, -over)
 
 
 def root_sign(a: int, b: int, under: int) -> int:
@@ -72,12 +75,11 @@ def breaks_of(rows: list[Numbers], discs: list[Numbers]) -> Iterator[Root]:
     """The columns of upright lines, of meets of two curves, and of the ends of circles."""
     for a, b, d in rows:
         if b == 0:
-            yield Root(-d if a > 0 else d, 0, 0, abs(a))
+            yield ratio(-d, a)
     for p, q in combinations(rows, 2):
-        over = p[0] * q[1] - p[1] * q[0]
-        if over:
-            whole = p[1] * q[2] - p[2] * q[1]
-            yield Root(whole if over > 0 else -whole, 0, 0, abs(over))
+        x, _, w = cross(p, q)
+        if w:
+            yield ratio(x, w)
     for disc in discs:
         yield Root(disc[0], 1, disc[2], 1)
         yield Root(disc[0], -1, disc[2], 1)
@@ -89,7 +91,7 @@ def breaks_of(rows: list[Numbers], discs: list[Numbers]) -> Iterator[Root]:
         if row[1]:
             yield from line_meets_disc(row, (x, y, r))
         elif row[0]:
-            yield Root(-row[2] if row[0] > 0 else row[2], 0, 0, abs(row[0]))
+            yield ratio(-row[2], row[0])
 
 
 def between(values: list[Root], bits: int = 24) -> Iterator[Fraction]:
@@ -118,8 +120,7 @@ def heights(rows: list[Numbers], discs: list[Numbers], x: Fraction) -> list[Root
     result = []
     for a, b, d in rows:
         if b:
-            whole = -(a * n + d * w)
-            result.append(Root(whole if b > 0 else -whole, 0, 0, abs(b) * w))
+            result.append(ratio(-(a * n + d * w), b * w))
     for cx, cy, r2 in discs:
         under = r2 * w * w - (n - cx * w) ** 2
         if under > 0:

@@ -1,7 +1,5 @@
 """Boundaries, their half-spaces and their box: distinct canonical lines, discs and planes, and their limits."""
 
-from __future__ import annotations
-
 from math import isqrt
 from typing import NamedTuple, Sequence
 

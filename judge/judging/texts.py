@@ -1,6 +1,4 @@
-"""Lines, words and numbers of a text, and how a refusal is told."""
-
-from __future__ import annotations
+"""Lines, words and numbers of a text, and how a refusal is reported."""
 
 import re
 from typing import Iterable
@@ -24,7 +22,7 @@ class Stop(Exception):
 
 
 class Refusal(Stop):
-    """A refusal; `why` is what stands behind `refused: `."""
+    """A refusal; `why` is what stands after `refused: `."""
 
     def __init__(self, why: str) -> None:
         super().__init__(2, "refused: " + why)
@@ -37,7 +35,7 @@ def at_word(name: str, line: int, word: int) -> Refusal:
 
 
 def lines_of(text: bytes) -> list[bytes]:
-    """The pieces between LFs; an empty piece behind the last LF is no line."""
+    """The pieces between LFs; an empty piece after the last LF is no line."""
     pieces = text.split(b"\n")
     if pieces[-1] == b"":
         pieces.pop()
@@ -55,9 +53,9 @@ def ended(lines: Iterable[str]) -> bytes:
 
 
 def whole_value(number: bytes) -> int | None:
-    """What a number says, or None where a digit behind its point is not 0. Past 2^62 it is 2^62."""
-    before, _, behind = number.lstrip(b"+-").partition(b".")
-    if behind.strip(b"0"):
+    """What a number says, or None where a digit after its point is not 0. Past 2^62 it is 2^62."""
+    before, _, after = number.lstrip(b"+-").partition(b".")
+    if after.strip(b"0"):
         return None
     digits = before.lstrip(b"0") or b"0"
     size = FARTHEST if len(digits) > 19 else min(int(digits), FARTHEST)
@@ -78,7 +76,7 @@ def hash_words(line: bytes) -> list[bytes]:
 
 
 def parts_of(text: bytes) -> tuple[bytes, bytes]:
-    """What stands before the first line `====` and behind its LF."""
+    """What stands before the first line `====` and after its LF."""
     start = 0
     while start < len(text):
         end = text.find(b"\n", start)

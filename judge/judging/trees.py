@@ -1,7 +1,5 @@
 """Trees: leaves with their numbers and sets, what a tree says of a point, and the layout of printed text."""
 
-from __future__ import annotations
-
 from math import gcd
 from typing import Callable, Iterator, NamedTuple, Union
 

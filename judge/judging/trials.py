@@ -1,7 +1,5 @@
 """The texts that `trial` converts."""
 
-from __future__ import annotations
-
 from .texts import ended, spaced
 
 

@@ -1,7 +1,5 @@
 """Vectors of whole numbers, and rational points: numbers with their denominator last."""
 
-from __future__ import annotations
-
 from math import gcd
 from operator import mul
 from typing import Iterable, Sequence
@@ -13,7 +11,7 @@ Vector = tuple[int, int, int]
 
 def farthest(numbers: Iterable[int]) -> int:
     """The greatest size of some numbers."""
-    return max(map(abs, numbers))
+    return max(abs(x) for x in numbers)
 
 
 def minus(a: Vector, b: Vector) -> Vector:

@@ -1,7 +1,5 @@
 """Is a run of the program right? Its status, its line on standard error, and what it wrote."""
 
-from __future__ import annotations
-
 import random
 import re
 from typing import NamedTuple, Sequence
@@ -46,17 +44,17 @@ def forced(given: Given) -> bytes:
 
 
 def summary(request: Request, setting: Setting, terms: list[Term], undecided: int) -> bytes:
-    """The lines behind the text of a trial."""
-    flat, discs = map(len, setting.table)
+    """The lines after the text of a trial."""
+    flat, discs = len(setting.table.flat), len(setting.table.discs)
     parts, inside = len(setting.every), sum(setting.every.values())
     counts = f"lines {flat}\ndiscs {discs}\ncandidates" if setting.is_flat else f"planes {flat}\ncells"
-    literals = sum(len(term.literals()) for term in terms)
+    literals = sum(term.taken.bit_count() + term.cut.bit_count() for term in terms)
     rest = f"terms {len(terms)}\nliterals {literals}\nundecided {undecided}\n"
     return f"trial {request.kind} {request.steps}\n{counts} {parts}\ninside {inside}\n{rest}".encode()
 
 
 def check_converted(given: Given, out: bytes, count: int, dice: random.Random) -> None:
-    """Wrong where the text of `convert`, `combine` or `trial` is, or the summary behind it."""
+    """Wrong where the text of `convert`, `combine` or `trial` is, or the summary after it."""
     setting = setting_of(given)
     before, mark, _ = out.partition(b"\ntrial ")
     text = before + b"\n" if mark else out

@@ -5,6 +5,7 @@ import os
 import subprocess
 import sys
 import tempfile
+import time
 import unittest
 from pathlib import Path
 from typing import Iterator
@@ -51,12 +52,17 @@ class RunningTest(unittest.TestCase):
                     run_program(path, [], b"", 1)
 
     def test_runs_that_do_not_end_by_themselves(self) -> None:
+        deaf = (
+            "import os, signal\nsignal.signal(signal.SIGXFSZ, signal.SIG_IGN)\n"
+            "while True:\n try: os.write(1, b'x' * 65536)\n except OSError: pass"
+        )
         for body, seconds, told in (
             ("import time; time.sleep(60)", 0.5, "^did not end within 0.5 seconds and was stopped$"),
-            ("import os, time; os.close(1); os.close(2); time.sleep(60)", 0.5, "^closed its streams, did not end"),
-            ("import os, time; os.fork() or time.sleep(60)", 0.5, "^did not end within 0.5 seconds"),
-            ("import os\nwhile True: os.write(1, b'x' * 65536)", 60, "^wrote more than 67108864 bytes"),
-            ("import os\nwhile True: os.write(2, b'x' * 65536)", 60, "^wrote more than 67108864 bytes"),
+            ("import os, time; os.close(1); os.close(2); time.sleep(60)", 0.5, "^did not end within 0.5 seconds"),
+            ("import os, time; os.fork() and time.sleep(60)", 0.5, "^did not end within 0.5 seconds"),
+            ("import os\nwhile True: os.write(1, b'x' * 65536)", 60, "^wrote 67108864 bytes or more, and was stopped"),
+            ("import os\nwhile True: os.write(2, b'x' * 65536)", 60, "^wrote 67108864 bytes or more, and was stopped"),
+            (deaf, 2, "^did not end within 2 seconds"),
             ("import os; os.kill(os.getpid(), 11)", 60, "^crashed: ended by SIGSEGV, with b''$"),
             ("import os; os.write(2, b'panic'); os.abort()", 60, "^crashed: ended by SIGABRT, with b'panic'$"),
         ):
@@ -77,10 +83,22 @@ class RunningTest(unittest.TestCase):
                 self.assertEqual(fault is None, told is None, fault)
                 self.assertIn(told or "", fault or "")
 
+    def test_what_a_program_starts_ends_with_it(self) -> None:
+        with tempfile.NamedTemporaryFile() as file:
+            body = f"import os, time\nif not os.fork():\n time.sleep(1); open({file.name!r}, 'w').write('late')"
+            with program(body) as path:
+                self.assertEqual(run_program(path, [], b"", 60).status, 0)
+            time.sleep(1.2)
+            self.assertEqual(file.read(), b"")
+
     def test_bytes_that_are_read(self) -> None:
         for words, data, count in (
-            ("convert", b"G1", 0), ("trial off 1", b"G1", 0), ("ask 0 0 0 9999999999999", b"?", 0), ("upgrade", b"?", 1),
-            ("convert contour", b" " * 1_048_576, 1_048_576), ("prism", b" " * 1_048_599, 1_048_577),
+            ("convert", b"G1", 0),
+            ("trial off 1", b"G1", 0),
+            ("ask 0 0 0 9999999999999", b"?", 0),
+            ("upgrade", b"?", 1),
+            ("convert contour", b" " * 1_048_576, 1_048_576),
+            ("prism", b" " * 1_048_599, 1_048_577),
         ):
             self.assertEqual(bytes_taken(words.split(), data), count)
 
@@ -94,8 +112,8 @@ class RunningTest(unittest.TestCase):
         ):
             with program(body) as path, tempfile.TemporaryDirectory() as keep:
                 seconds = 0.5 if "while" in body else 60
-                words = f"{JUDGE}/run {path} --count 3 --command upgrade --keep {keep}/judge-x --seconds {seconds} --most 1 --shrink 1"
-                ended = subprocess.run(words.split(), capture_output=True, text=True)
+                words = f"--count 3 --command upgrade --keep {keep}/judge-x --seconds {seconds} --most 1 --shrink 1"
+                ended = subprocess.run([JUDGE / "run", path, *words.split()], capture_output=True, text=True)
                 self.assertEqual((ended.returncode, ended.stderr), (status, ""))
                 self.assertIn(told, ended.stdout)
         ended = subprocess.run([JUDGE / "run", "/no/such/program"], capture_output=True, text=True)

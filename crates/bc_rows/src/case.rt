@@ -35,7 +35,10 @@ pub fn without_notes(alloc: Global, text: &[u8]) -> Result<String, Fail> {
     let mut rest = String::new(alloc);
     for line in str::from_utf8(text).map_err(|_| "text")?.lines() {
         let words = line.trim_start();
-        if !words.starts_with("// own ") && !words.starts_with("// out ") {
+        if !words.starts_with("// own ")
+            && !words.starts_with("// out ")
+            && !words.starts_with("// needs ")
+        {
             rest.push_str(line)?;
             rest.push_str("\n")?;
         }

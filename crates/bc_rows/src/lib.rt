@@ -4,6 +4,8 @@
 #[cfg(test)]
 mod audit_rows;
 #[cfg(test)]
+mod carve_rows;
+#[cfg(test)]
 mod case;
 #[cfg(test)]
 mod combine_rows;

@@ -1,0 +1,5 @@
+mod Sizes
+mod Made
+pub mod Meaning
+pub mod Counted
+pub mod Allowed

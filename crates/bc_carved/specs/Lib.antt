@@ -1,0 +1,3 @@
+pub mod Carved
+pub mod Counts
+pub mod Meanings

@@ -1,0 +1,2 @@
+pub mod Carved
+pub mod Carvings
