@@ -83,8 +83,8 @@ class Building(unittest.TestCase):
         code = f"import sys; sys.argv[0] = {str(self.checkout.top / 'command/build')!r}; exec(open(sys.argv[0]).read().replace('EVERY = 30.0', 'EVERY = 0.4'), {{'__name__': '__main__', '__file__': sys.argv[0]}})"
         ran = subprocess.run([sys.executable, "-B", "-c", code], env=environment, capture_output=True, text=True, timeout=60)
         self.assertEqual((ran.returncode, ran.stdout), (0, ""))
-        self.assertIn("bcsg: 0 of 2 crates are done after 0:00 minutes, at work on bc_low\n", ran.stderr)
-        self.assertIn("bcsg: 1 of 2 crates are done after 0:00 minutes, at work on bc_prog\n", ran.stderr)
+        self.assertRegex(ran.stderr, r"bcsg: 0 of 2 crates are done after 0:\d\d minutes, at work on bc_low\n")
+        self.assertRegex(ran.stderr, r"bcsg: 1 of 2 crates are done after 0:\d\d minutes, at work on bc_prog\n")
 
     def test_an_interrupted_build_says_that_it_goes_on(self) -> None:
         environment = self.checkout.environment(PAUSE="20")

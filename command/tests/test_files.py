@@ -191,7 +191,7 @@ class Outputs(Case):
             self.assertEqual((self.checkout.cwd / f"{mask}").stat().st_mode & 0o777, rights)
 
     def test_an_interrupted_run_leaves_no_file(self) -> None:
-        executable(self.checkout.program, "#!/bin/sh\necho begun\nsleep 30\n")
+        executable(self.checkout.program, "#!/bin/sh\necho begun\nexec sleep 30\n")
         for number, status in [(signal.SIGINT, 130), (signal.SIGTERM, 143), (signal.SIGHUP, 129)]:
             ran = subprocess.Popen(
                 [self.checkout.top / "bcsg", "upgrade", "-o", "kept"], cwd=self.checkout.cwd, env=self.checkout.environment(), stderr=subprocess.DEVNULL, start_new_session=True

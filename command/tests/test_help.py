@@ -38,7 +38,7 @@ class Help(unittest.TestCase):
         self.assertEqual(self.checkout.called(), [])
 
     def test_each_command_has_its_help(self) -> None:
-        self.assertEqual(len(commands()), 10)
+        self.assertEqual({"convert", "factor", "carve", "combine", "prism", "side", "ask", "audit", "upgrade", "trial"}, set(commands()))
         for command in commands():
             with self.subTest(command):
                 text = about(command)
