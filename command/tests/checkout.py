@@ -4,10 +4,14 @@ from __future__ import annotations
 
 import os
 import shutil
+import signal
 import subprocess
 import sys
 import tempfile
 from pathlib import Path
+
+# (what started these tests may have told its children to ignore an interrupt; the runs here must not)
+signal.signal(signal.SIGINT, signal.default_int_handler)
 
 sys.dont_write_bytecode = True
 TOP = Path(__file__).resolve().parent.parent.parent
